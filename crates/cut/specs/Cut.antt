@@ -1,0 +1,38 @@
+-- Cut (`pick_relevance_split_index`), of lists of ids and sizes.
+use Prim.Native.Nat.{ℕ, _-_}
+use mathlib.Core.Bool.{Bool, true, false, cond}
+use mathlib.Core.List.{List, [], _∷_, foldl, map}
+use lib.Ieee.{Float}
+use lib.ListN.{length}
+use Rattle.lists.specs.Range.{range}
+use Rattle.lists.specs.Keep.{keep}
+use Rattle.cut.specs.Candidate.{candidateAt, allowed, beats}
+use Rattle.cut.specs.declared.candidate.Candidate.{Candidate}
+
+-- "The answer is the cut with its two sizes, as f64", or there is no cut.
+pub data Chosen : Type 0 where
+  none : Chosen
+  cut : ℕ → Float → Float → Chosen
+
+-- the allowed cuts, from 1 to N−1, upwards
+unfoldable pub allowedCuts : List (List ℕ) → List ℕ → Float → List Candidate
+unfolding range keep candidateAt allowed
+allowedCuts ids sizes minimum = keep (allowed minimum) (map (candidateAt ids sizes) (range 1 (length ids - 1)))
+
+-- the better of the best so far and a later one
+unfoldable pub better : Float → Candidate → Candidate → Candidate
+unfolding beats
+better maximum best later = cond (beats maximum later best) later best
+
+-- "Allowed cuts are scanned upwards and the first is taken as best"; "No cut is reported only if none is allowed."
+unfoldable pub pick : Float → List Candidate → Chosen
+unfolding better
+pick maximum [] = none
+pick maximum (first ∷ later) =
+    let best = foldl (better maximum) first later in
+    cut (best .index) (best .left) (best .right)
+
+-- Below two modules there is no place to cut.
+unfoldable pub cutOf : List (List ℕ) → List ℕ → Float → Float → Chosen
+unfolding allowedCuts pick
+cutOf ids sizes minimum maximum = pick maximum (allowedCuts ids sizes minimum)

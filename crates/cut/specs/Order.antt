@@ -1,0 +1,32 @@
+-- Modules in an order of their own: tables of ids and sizes, and the numbers of the modules in that order.
+use Prim.Native.Nat.{ℕ, _+_, _^_, _≤_, _<_}
+use mathlib.Core.Bool.{false}
+use mathlib.Core.List.{List, map}
+use mathlib.Core.Path.{_≡_}
+use lib.ListN.{length, getD}
+use Rattle.lists.specs.Sum.{sum}
+use Rattle.ids.specs.Parts.{idAt}
+use Rattle.ids.specs.Offsets.{badOffsets}
+
+-- the sizes of the modules, in their order
+abbrev pub sizesIn : List ℕ → List ℕ → List ℕ
+sizesIn sizes order = map (λ k. getD sizes k 0) order
+
+-- the ids of the modules, in their order
+abbrev pub idsIn : List ℕ → List ℕ → List ℕ → List (List ℕ)
+idsIn bytes offsets order = map (idAt bytes offsets) order
+
+-- each number of the order has a size, and the sizes of the modules in the order add to at most 2^53
+pub record Sized (sizes order : List ℕ) : Type 0 where
+  pub has-size : (i : ℕ) → i < length order → getD order i 0 < length sizes
+  pub exact : sum (sizesIn sizes order) ≤ 2 ^ 53
+
+-- each number of the order has an id in a table to which refusal 3 does not apply
+pub record Named (bytes offsets order : List ℕ) : Type 0 where
+  pub good : badOffsets (length bytes) offsets ≡ false
+  pub has-id : (i : ℕ) → i < length order → getD order i 0 + 1 < length offsets
+
+-- what the cut of modules in an order asks of its tables
+pub record Cuttable (bytes offsets sizes order : List ℕ) : Type 0 where
+  pub sized : Sized sizes order
+  pub named : Named bytes offsets order

@@ -1,0 +1,60 @@
+// The cut of an oversized list of modules in two, by relevance of their ids and then by size.
+pub mod candidate;
+pub mod scan;
+
+ghost use mathlib.Core.Path.{_≡_};
+ghost use Rattle.cut.specs.Call.{cutCall, outcomeOf};
+
+// A cut: the index of the first module on the right, and the sizes of the two sides.
+pub struct CutPoint {
+    pub index: usize,
+    pub left_size: f64,
+    pub right_size: f64,
+}
+
+pub enum Cut {
+    None,
+    At(CutPoint),
+}
+
+pub enum CutAnswer {
+    Refused(u32),
+    Answered(Cut),
+}
+
+// The public call: ids and sizes in the order given.
+pub fn pick_relevance_split_index(
+    n: usize,
+    bytes: &[u8],
+    offsets: &[u32],
+    sizes: &[u64],
+    minimum: f64,
+    maximum: f64,
+) -> CutAnswer
+    ensures { λ r. ⌜ outcomeOf r ≡ cutCall n (now (bytes .entry)) (now (offsets .entry)) (now (sizes .entry)) minimum maximum ⌝ }
+{
+    if refusal::MODULE_LIMIT < n {
+        return CutAnswer::Refused(refusal::COUNT);
+    }
+    if offsets.len() != n + 1 {
+        return CutAnswer::Refused(refusal::LENGTH);
+    }
+    if sizes.len() != n {
+        return CutAnswer::Refused(refusal::LENGTH);
+    }
+    if ids::offsets::bad_offsets(bytes.len(), offsets) {
+        return CutAnswer::Refused(refusal::ID);
+    }
+    if whole::total_exceeds(sizes) {
+        return CutAnswer::Refused(refusal::TOTAL);
+    }
+    if limit::is_nan(minimum) {
+        return CutAnswer::Refused(refusal::NAN);
+    }
+    if limit::is_nan(maximum) {
+        return CutAnswer::Refused(refusal::NAN);
+    }
+    let mut order = [0u32; 4096];
+    lists::fill_range(&mut order[..n]);
+    CutAnswer::Answered(scan::pick_in_order(bytes, offsets, sizes, &order[..n], minimum, maximum))
+}

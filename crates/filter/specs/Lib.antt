@@ -1,0 +1,2 @@
+-- The static filter of a group.
+pub mod Filter

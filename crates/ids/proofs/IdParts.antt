@@ -1,0 +1,52 @@
+-- In a table that passes refusal 3 every id is a part of the byte slice within the length limit, and the ids of n modules
+-- are n in number, each at its place.
+use Prim.Native.Nat.{ℕ, zero, suc, _+_, _-_, _≤_, _<_}
+use mathlib.Core.Bool.{false}
+use mathlib.Core.List.{List, [], _∷_, map}
+use mathlib.Core.Path.{_≡_, refl, ap, _∙_}
+use native.Mathlib.Nat.{zero-add, zero-sub, sub-zero, suc-sub-suc, not-suc-le-zero, le-of-suc-le-suc}
+use borrow.Author.Tests.{le-ltb}
+use lib.ListN.{length, getD, take, drop, length-map}
+use lib.Seq.{slice, take-nil, drop-nil, length-slice}
+use Rattle.lists.specs.Range.{range}
+use Rattle.lists.proofs.Range.{length-range, getD-range}
+use Rattle.ids.specs.Offsets.{idTooLong, badOffsets}
+use Rattle.ids.specs.Parts.{idAt, idsOf, InTable}
+use Rattle.ids.proofs.OffsetTable.{offset-within, offset-pair}
+
+-- a part by its start and its length is the part by its start and its end
+pub part-slice : (s e : ℕ) (l : List ℕ) → take (e - s) (drop s l) ≡ slice s e l
+part-slice zero e l = rw sub-zero
+part-slice (suc s) zero l = rw (zero-sub, drop-nil)
+part-slice (suc s) (suc e) [] = take-nil (suc e - suc s)
+part-slice (suc s) (suc e) (x ∷ l) = rw suc-sub-suc (part-slice s e l)
+
+module _ (bytes offsets : List ℕ) (k : ℕ) (good : badOffsets (length bytes) offsets ≡ false) (h : k + 1 < length offsets) where
+  pub in-table : InTable bytes offsets k
+  in-table = record { has-next = h; rises = offset-pair _ offsets good k h .0; ends = offset-within _ offsets good (k + 1) h }
+
+  pub id-length : length (idAt bytes offsets k) ≤ 1024
+  unfolding idAt
+  id-length = rw (length-slice _ _ bytes (in-table .ends)) (offset-pair _ offsets good k h .1)
+
+  pub id-fits : idTooLong (idAt bytes offsets k) ≡ false
+  unfolding idTooLong
+  id-fits = le-ltb _ _ id-length
+
+-- ---- the ids of n modules
+
+pub ids-length : (n : ℕ) (bytes offsets : List ℕ) → length (idsOf n bytes offsets) ≡ n
+unfolding idsOf
+ids-length n bytes offsets = length-map (range 0 n) (idAt bytes offsets) ∙ length-range 0 n
+
+getD-image : {A B : Type 0} (f : A → B) (l : List A) (k : ℕ) (d : A) (e : B) → k < length l → getD (map f l) k e ≡ f (getD l k d)
+getD-image f [] k d e h = absurd (not-suc-le-zero h)
+getD-image f (x ∷ l) zero d e h = refl
+getD-image f (x ∷ l) (suc k) d e h = getD-image f l k d e (le-of-suc-le-suc h)
+
+pub ids-at : (n : ℕ) (bytes offsets : List ℕ) (k : ℕ) → k < n → getD (idsOf n bytes offsets) k [] ≡ idAt bytes offsets k
+unfolding idsOf
+ids-at n bytes offsets k h =
+    let g : k < length (range 0 n) = rw length-range h in
+    getD-image (idAt bytes offsets) (range 0 n) k 0 [] g
+    ∙ ap (idAt bytes offsets) (getD-range 0 n k 0 h ∙ zero-add k)

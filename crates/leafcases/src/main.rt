@@ -1,0 +1,21 @@
+// Runs the figures of Similarity, Cut and Filter and each of their refusals at its limit and one past it, and writes one line a case.
+mod cuts;
+mod filters;
+mod out;
+mod refused_cuts;
+mod similar;
+
+fn main() {
+    similar::figures();
+    similar::limits();
+    cuts::figures();
+    cuts::more();
+    cuts::limits();
+    refused_cuts::counts();
+    refused_cuts::offsets();
+    refused_cuts::totals();
+    refused_cuts::doubles();
+    filters::accepted();
+    filters::edges();
+    filters::refused();
+}

@@ -1,0 +1,2 @@
+-- A limit: absent, or a double.
+pub mod Limits

@@ -1,0 +1,8 @@
+-- Small definitions over lists and numbers that the other crates' definitions are written with.
+pub mod Below
+pub mod Elem
+pub mod Keep
+pub mod Least
+pub mod Range
+pub mod Sort
+pub mod Sum

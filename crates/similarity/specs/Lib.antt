@@ -1,0 +1,2 @@
+-- Similarity of two stable ids.
+pub mod Similarity

@@ -1,0 +1,62 @@
+// Similarity of two stable ids.
+use ids::offsets::id_too_long;
+ghost use mathlib.Core.Path.{_≡_};
+ghost use Prim.Native.Nat.{_≤_};
+ghost use lib.ListN.{length};
+ghost use Rattle.similarity.specs.Similarity.{gap, byteScore, similarity, similarityCall, outcomeOf};
+
+pub enum Similarity {
+    Refused(u32),
+    Score(u32),
+}
+
+// What one byte pair adds to the similarity.
+pub fn byte_score(a: u8, b: u8) -> u32
+    ensures { λ r. ⌜ r ≡ byteScore a b ⌝ }
+{
+    let gap = byte_gap(a, b);
+    if 10 < gap {
+        return 0;
+    }
+    10 - gap
+}
+
+// The absolute difference of two bytes.
+fn byte_gap(a: u8, b: u8) -> u32
+    ensures { λ r. ⌜ r ≡ gap a b ⌝ }
+{
+    if a < b {
+        return (b - a) as u32;
+    }
+    (a - b) as u32
+}
+
+// The similarity of two ids that are within the length limit.
+pub fn similarity_within(lhs: &[u8], rhs: &[u8]) -> u32
+    requires { ⌜ length (now lhs) ≤ 1024 ⌝ }
+    ensures { λ r. ⌜ r ≡ similarity (now (lhs .entry)) (now (rhs .entry)) ⌝ }
+{
+    let mut score: u32 = 0;
+    let mut i = 0;
+    while i < lhs.len() {
+        if rhs.len() <= i {
+            return score;
+        }
+        score = score + byte_score(lhs[i], rhs[i]);
+        i = i + 1;
+    }
+    score
+}
+
+// The public call: refuses 3, an id of more than 1,024 bytes.
+pub fn stable_id_similarity(lhs: &[u8], rhs: &[u8]) -> Similarity
+    ensures { λ r. ⌜ outcomeOf r ≡ similarityCall (now (lhs .entry)) (now (rhs .entry)) ⌝ }
+{
+    if id_too_long(lhs) {
+        return Similarity::Refused(refusal::ID);
+    }
+    if id_too_long(rhs) {
+        return Similarity::Refused(refusal::ID);
+    }
+    Similarity::Score(similarity_within(lhs, rhs))
+}

@@ -1,0 +1,3 @@
+-- Sizes: whole numbers, and the doubles that they are added and compared as.
+pub mod Double
+pub mod Total
