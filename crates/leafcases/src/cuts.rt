@@ -122,6 +122,10 @@ pub fn limits() {
         1.0,
         9.0,
     );
+}
+
+// The most ids, and the longest.
+pub fn largest() {
     let bytes = [97u8; 4096];
     let mut offsets = [0u32; 4097];
     lists::fill_range(&mut offsets);

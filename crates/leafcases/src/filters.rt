@@ -39,7 +39,7 @@ fn tagged(tags: u64, minimum: MinShareCount) -> StaticFilter {
     }
 }
 
-pub fn accepted() {
+pub fn sizes() {
     show(
         b"nothing asked",
         sized(Limit::Absent, Limit::Absent),
@@ -68,6 +68,9 @@ pub fn accepted() {
         5,
         0,
     );
+}
+
+pub fn tags_and_shares() {
     show(b"tags and more", tagged(6, MinShareCount::Absent), 7, 0, 0);
     show(b"a tag missing", tagged(6, MinShareCount::Absent), 5, 0, 0);
     show(
@@ -93,7 +96,7 @@ pub fn accepted() {
     );
 }
 
-pub fn edges() {
+pub fn infinities() {
     let infinity = 1.0 / 0.0;
     let minus_infinity = -infinity;
     show(
@@ -124,6 +127,9 @@ pub fn edges() {
         0,
         0,
     );
+}
+
+pub fn negative_zeros() {
     show(
         b"maximum negative zero",
         sized(Limit::Absent, Limit::Given(-0.0)),

@@ -11,11 +11,14 @@ fn main() {
     cuts::figures();
     cuts::more();
     cuts::limits();
+    cuts::largest();
     refused_cuts::counts();
     refused_cuts::offsets();
     refused_cuts::totals();
     refused_cuts::doubles();
-    filters::accepted();
-    filters::edges();
+    filters::sizes();
+    filters::tags_and_shares();
+    filters::infinities();
+    filters::negative_zeros();
     filters::refused();
 }

@@ -4,5 +4,6 @@ pub mod Elem
 pub mod Keep
 pub mod Least
 pub mod Range
+pub mod Same
 pub mod Sort
 pub mod Sum

@@ -10,6 +10,16 @@ pub data Outcome (A : Type 0) : Type 0 where
   refused : ℕ → Outcome A
   accepted : A → Outcome A
 
+-- the number of an outcome, and 0 if the call is accepted; no condition has the number 0
+abbrev pub numberOf : {A : Type 0} → Outcome A → ℕ
+numberOf (refused n) = n
+numberOf (accepted a) = 0
+
+-- what a place holds after a call that writes its value there: a refusal leaves what it held
+abbrev pub valueOr : {A : Type 0} → Outcome A → A → A
+valueOr (refused n) held = held
+valueOr (accepted a) held = a
+
 -- a condition that a call tests: its number in the tables, and whether it applies
 pub data Test : Type 0 where
   test : ℕ → Bool → Test

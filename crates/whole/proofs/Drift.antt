@@ -12,7 +12,7 @@ use Rattle.lists.specs.Sum.{sum}
 use Rattle.whole.specs.Double.{toF64, sumF64}
 use Rattle.whole.specs.Total.{totalExceeds}
 use Rattle.whole.proofs.Total.{accepted}
-use Rattle.whole.proofs.Sum.{sum-append, sum-perm}
+use Rattle.lists.proofs.Sum.{sum-append, sum-perm}
 use Rattle.whole.proofs.Exact.{sum-exact, sum-any-order, sum-join, total-less}
 use Rattle.whole.proofs.Compare.{lt-exact, le-exact, eq-exact}
 

@@ -16,7 +16,7 @@ use lib.Ieee.Fits.{down-pos}
 use lib.Ieee.Scale.{round-same}
 use Rattle.lists.specs.Sum.{sum}
 use Rattle.whole.specs.Double.{toF64, sumF64}
-use Rattle.whole.proofs.Sum.{sum-append, sum-split, sum-perm}
+use Rattle.lists.proofs.Sum.{sum-append, sum-split, sum-perm}
 use Rattle.whole.proofs.Value.{whole-double, left, right}
 
 -- a and b, as the doubles m * 2 ^ e and n * 2 ^ d

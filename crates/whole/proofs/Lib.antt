@@ -1,5 +1,4 @@
 -- Laws of whole numbers as doubles, for the crates above. `Drift` is the theorem that totals of sizes can't drift.
-pub mod Sum
 pub mod Tests
 pub mod Value
 pub mod Exact

@@ -11,7 +11,7 @@ use lib.ListN.{length, getD, take}
 use lib.Seq.{take-all}
 use Rattle.lists.specs.Sum.{sum}
 use Rattle.whole.specs.Total.{totalLimit, totalExceeds}
-use Rattle.whole.proofs.Sum.{sum-take-suc, sum-take-le}
+use Rattle.lists.proofs.Sum.{sum-take-suc, sum-take-le}
 use Rattle.whole.proofs.total_exceeds.Statement.{statement}
 use Rattle.whole.proofs.total_exceeds.Tie as tie
 

@@ -1,0 +1,12 @@
+-- The laws of the definitions of specs/.
+pub mod Reached
+pub mod Filled
+pub mod Count
+pub mod State
+pub mod Visit
+pub mod Chains
+pub mod Captured
+pub mod Walking
+pub mod Start
+pub mod Ladder
+pub mod Accepted

@@ -1,0 +1,105 @@
+-- The walk itself. All along it, what is marked is reached, the starts are marked, and so is every eligible module that a module taken off
+-- the list names. With all taken off, just what is reached is marked: what is reached by one step more was named by one taken off.
+use Prim.Native.Nat.{ℕ, _+_, _≤_, _<_}
+use mathlib.Core.List.{List, foldl}
+use mathlib.Core.Logic.{inl, inr, ⊎-elim}
+use mathlib.Core.Path.{_≡_, refl, sym, _∙_, subst}
+use native.Mathlib.Decide.{decLt}
+use native.Mathlib.Nat.{not-suc-le-zero, lt-of-lt-of-le}
+use native.Mathlib.Omega.{arith}
+use lib.Dec.{eqb}
+use lib.ListN.{length, getD, List·getD-eq-default}
+use Rattle.records.specs.Chain.{dependencies}
+use Rattle.records.proofs.Table.{Good, dependencies-in}
+use Rattle.capture.specs.Reached.{Reached, start, further, Marks}
+use Rattle.capture.specs.Capture.{Eligible, Names}
+use Rattle.capture.specs.Walk.{Walk, markedCount, WalkState, visited}
+use Rattle.capture.proofs.Count.{count-le}
+use Rattle.capture.proofs.Reached.{reached-all}
+use Rattle.capture.proofs.Visit.{Visited, visit-all}
+
+module _ (flags first dependency next : List ℕ) (n d : ℕ) where
+  -- what is reached from the modules marked before
+  abbrev pub FromMarked : List ℕ → ℕ → Type 0
+  FromMarked before = Reached (Eligible flags) (Names first dependency next d) (λ m. getD before m 0 ≡ 1)
+
+  -- the walk from w₀ with `head` modules taken off the list
+  pub record Walking (w₀ : Walk) (head : ℕ) (w : Walk) : Type 0 where
+    pub state : WalkState flags n w
+    pub head-in : head ≤ w .tail
+    pub started : (m : ℕ) → getD (w₀ .marks) m 0 ≡ 1 → getD (w .marks) m 0 ≡ 1
+    pub sound : (m : ℕ) → getD (w .marks) m 0 ≡ 1 → FromMarked (w₀ .marks) m
+    pub closed : (i : ℕ) → i < head → (k : ℕ) → Names first dependency next d (getD (w .queue) i 0) k → Eligible flags k → getD (w .marks) k 0 ≡ 1
+    pub queue-length : length (w .queue) ≡ length (w₀ .queue)
+
+  -- a marked module is one of the n
+  marked-in : (w : Walk) → WalkState flags n w → (m : ℕ) → getD (w .marks) m 0 ≡ 1 → m < n
+  marked-in w s m e = go (decLt m n)
+    where
+      go : Dec (m < n) → m < n
+      go (yes l) = l
+      go (no l) = let z = List·getD-eq-default (w .marks) 0 {n = m} (omega (arith, s .mark-bytes)) in omega arith
+
+  -- it starts with nothing taken off
+  pub walk-begins : (w : Walk) → WalkState flags n w → Walking w 0 w
+  walk-begins w s =
+      record {
+        state = s;
+        head-in = omega arith;
+        started = λ m e. e;
+        sound = λ m e. start e (s .eligible-ones m (marked-in w s m e) e);
+        closed = λ i l. absurd (not-suc-le-zero l);
+        queue-length = refl;
+      }
+
+  -- one module more is taken off, and its chain followed
+  module _ (g : Good first dependency next n d) (w₀ : Walk) (head : ℕ) (w : Walk) (p : Walking w₀ head w) (h : head < w .tail) where
+    -- a module on the list is one of the n
+    pub taken-in : getD (w .queue) head 0 < n
+    taken-in = p .state .queued head h .0
+
+    -- the walk with its chain followed
+    abbrev followed : Walk
+    followed = foldl (visited flags) w (dependencies first dependency next d (getD (w .queue) head 0))
+
+    after-chain : Visited flags n (dependencies first dependency next d (getD (w .queue) head 0)) w followed
+    after-chain = visit-all flags n _ w (p .state) (dependencies-in first dependency next n d g (getD (w .queue) head 0) taken-in)
+
+    still-closed : (i : ℕ) → i < head + 1 → (k : ℕ) → Names first dependency next d (getD (followed .queue) i 0) k → Eligible flags k → getD (followed .marks) k 0 ≡ 1
+    still-closed i l k names el = go (decLt i head) (subst (λ (x : ℕ). Names first dependency next d x k) (after-chain .places-stay i (omega arith)) names)
+      where
+        go : Dec (i < head) → Names first dependency next d (getD (w .queue) i 0) k → getD (followed .marks) k 0 ≡ 1
+        go (yes b) named = after-chain .marks-stay k (p .closed i b k named el)
+        go (no b) named =
+            let q : i ≡ head = omega arith in
+            after-chain .all k (subst (λ (x : ℕ). Names first dependency next d (getD (w .queue) x 0) k) q named) el
+
+    pub walk-turns : {w′ : Walk} → foldl (visited flags) w (dependencies first dependency next d (getD (w .queue) head 0)) ≡ w′ → Walking w₀ (head + 1) w′
+    walk-turns e =
+        subst (Walking w₀ (head + 1)) e (
+        record {
+          state = after-chain .state;
+          head-in = omega (arith, after-chain .longer);
+          started = λ m e. after-chain .marks-stay m (p .started m e);
+          sound = λ m e. ⊎-elim (λ o. p .sound m o) (λ t. further (p .sound (getD (w .queue) head 0) (p .state .queued head h .1)) (t .0) (t .1)) (after-chain .only m e);
+          closed = still-closed;
+          queue-length = after-chain .queue-length ∙ p .queue-length;
+        })
+
+  -- all are taken off
+  module _ (w₀ : Walk) (head : ℕ) (w : Walk) (p : Walking w₀ head w) (h : w .tail ≤ head) where
+    complete : {m : ℕ} → FromMarked (w₀ .marks) m → getD (w .marks) m 0 ≡ 1
+    complete r = reached-all (λ m. getD (w .marks) m 0 ≡ 1) (p .started) step r
+      where
+        step : (m k : ℕ) → getD (w .marks) m 0 ≡ 1 → Names first dependency next d m k → Eligible flags k → getD (w .marks) k 0 ≡ 1
+        step m k e names el =
+            let o = p .state .listed m (marked-in w (p .state) m e) e in
+            p .closed (o .0) (lt-of-lt-of-le (o .1) h) k (subst (λ (x : ℕ). Names first dependency next d x k) (sym (o .2)) names) el
+
+    pub walk-ends : Marks (FromMarked (w₀ .marks)) n (w .marks)
+    walk-ends = record { each = λ m l. ⊎-elim (λ e. inl (e, p .sound m e)) (λ e. inr (e, λ r. let z = complete r in omega arith)) (p .state .byte m l) }
+
+-- no more modules are on the list than there are
+pub list-within : (flags : List ℕ) (n : ℕ) (w : Walk) → WalkState flags n w → w .tail ≤ n
+unfolding markedCount
+list-within flags n w s = omega (arith, s .count, count-le (λ m. eqb (getD (w .marks) m 0) 1) n)

@@ -1,0 +1,5 @@
+-- The capture of a module and its dependencies.
+pub mod Reached
+pub mod Capture
+pub mod Walk
+pub mod Call

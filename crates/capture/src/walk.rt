@@ -1,0 +1,71 @@
+// The walk along dependencies: a list of modules still to visit, each put on it at most once.
+use index::ModuleIdx;
+ghost use mathlib.Core.List.{foldl};
+ghost use mathlib.Core.Path.{_≡_};
+ghost use Prim.Native.Nat.{_-_};
+ghost use lib.ListN.{length};
+ghost use Rattle.records.specs.Chain.{dependencies};
+ghost use Rattle.capture.specs.Walk.{WalkReady, Walked, FollowReady, VisitReady, visited};
+
+// A module that a chain names: it is marked and put on the list if it is eligible and not marked yet.
+fn visit(flags: &[u8], marks: &mut [u8], queue: &mut [u32], tail: usize, named: ModuleIdx) -> usize
+    requires { ⌜ VisitReady (now flags) (record { marks = now marks; queue = now queue; tail = tail }) (named .0) ⌝ }
+    ensures { λ r. ⌜ visited (now (flags .entry)) (record { marks = now (marks .entry); queue = now (queue .entry); tail = tail }) (named .0) ≡ record { marks = now (marks .exit); queue = now (queue .exit); tail = r } ⌝ }
+{
+    let at = named.0 as usize;
+    if !flags::is_eligible(flags[at]) {
+        return tail;
+    }
+    if marks[at] != 0 {
+        return tail;
+    }
+    marks[at] = 1;
+    queue[tail] = named.0;
+    tail + 1
+}
+
+// Visits the modules that are named along a module's chain.
+fn follow(
+    flags: &[u8],
+    first: &[u32],
+    dependency: &[u32],
+    next: &[u32],
+    marks: &mut [u8],
+    queue: &mut [u32],
+    tail: usize,
+    of: ModuleIdx,
+) -> usize
+    requires { ⌜ FollowReady (now flags) (now first) (now dependency) (now next) (length (now flags)) (length (now next) - 1) (record { marks = now marks; queue = now queue; tail = tail }) (of .0) ⌝ }
+    ensures { λ r. ⌜ foldl (visited (now (flags .entry))) (record { marks = now (marks .entry); queue = now (queue .entry); tail = tail }) (dependencies (now (first .entry)) (now (dependency .entry)) (now (next .entry)) (length (now (next .entry)) - 1) (of .0)) ≡ record { marks = now (marks .exit); queue = now (queue .exit); tail = r } ⌝ }
+{
+    let at = of.0 as usize;
+    let mut found = tail;
+    let mut r = first[at] as usize;
+    while r != 0 {
+        found = visit(flags, marks, queue, found, ModuleIdx(dependency[r]));
+        r = next[r] as usize;
+    }
+    found
+}
+
+// Marks all that is reached from the modules marked so far, which are the first `tail` of the list.
+pub fn walk(
+    flags: &[u8],
+    first: &[u32],
+    dependency: &[u32],
+    next: &[u32],
+    marks: &mut [u8],
+    queue: &mut [u32],
+    tail: usize,
+)
+    requires { ⌜ WalkReady (now flags) (now first) (now dependency) (now next) (length (now flags)) (length (now next) - 1) (record { marks = now marks; queue = now queue; tail = tail }) ⌝ }
+    ensures { λ _. ⌜ Walked (now (flags .entry)) (now (first .entry)) (now (dependency .entry)) (now (next .entry)) (length (now (flags .entry))) (length (now (next .entry)) - 1) (now (marks .entry)) (now (marks .exit)) ⌝ }
+{
+    let mut found = tail;
+    let mut head = 0;
+    while head < found {
+        let of = ModuleIdx(queue[head]);
+        found = follow(flags, first, dependency, next, marks, queue, found, of);
+        head = head + 1;
+    }
+}

@@ -1,0 +1,2 @@
+-- The claim over the marked figures.
+pub mod MarkedHold

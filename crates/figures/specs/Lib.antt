@@ -1,0 +1,3 @@
+-- Document 01's marked figures.
+pub mod Figure
+pub mod Marked

@@ -1,0 +1,2 @@
+-- The flag byte of a module.
+pub mod Flags

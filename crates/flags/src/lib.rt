@@ -1,0 +1,34 @@
+// The flag byte of a module: 1 normal, 2 included, 4 already assigned, summed.
+ghost use mathlib.Core.Path.{_≡_};
+ghost use Prim.Native.Nat.{_≤_};
+ghost use lib.ListN.{length};
+ghost use Rattle.flags.specs.Flags.{listed, eligible, badFlags};
+
+// Normal and included.
+pub fn is_listed(flags: u8) -> bool
+    ensures { λ r. ⌜ r ≡ listed flags ⌝ }
+{
+    flags & 3 == 3
+}
+
+// Normal, included and not assigned.
+pub fn is_eligible(flags: u8) -> bool
+    ensures { λ r. ⌜ r ≡ eligible flags ⌝ }
+{
+    flags & 7 == 3
+}
+
+// Refusal 9: a flag byte above 7 among n modules.
+pub fn bad_flags(flags: &[u8], n: usize) -> bool
+    requires { ⌜ n ≤ length (now flags) ⌝ }
+    ensures { λ r. ⌜ r ≡ badFlags (now (flags .entry)) n ⌝ }
+{
+    let mut m = 0;
+    while m < n {
+        if 7 < flags[m] {
+            return true;
+        }
+        m = m + 1;
+    }
+    false
+}

@@ -1,0 +1,63 @@
+-- The places that an exported function writes, before and after a call: a refusal leaves them as they were.
+use Prim.Native.Nat.{ℕ}
+use mathlib.Core.Bool.{Bool, true, false}
+use mathlib.Core.Path.{_≡_}
+use lib.Ieee.{Float}
+use Rattle.refusal.specs.Outcome.{Outcome, refused, accepted, numberOf, valueOr}
+use Rattle.limit.specs.declared.Limit.{Limit}
+use Rattle.limit.specs.declared.Limit.the-variants as limit
+use Rattle.filter.specs.declared.MinShareCount.{MinShareCount}
+use Rattle.filter.specs.declared.MinShareCount.the-variants as shares
+use Rattle.filter.specs.declared.StaticFilter.{StaticFilter}
+use Rattle.cut.specs.Cut.{Chosen, none, cut}
+use Rattle.capture.specs.Capture as capturing
+use Rattle.capture.specs.Call as capture
+use Rattle.merge.specs.Call as merge
+
+-- the places of a cut: whether there is one, its index and the sizes of its sides
+pub record CutPlaces : Type 0 where
+  pub found : Bool
+  pub index : ℕ
+  pub left : Float
+  pub right : Float
+
+-- no cut leaves the index and the sizes as they were
+abbrev pub cutAfter : Outcome Chosen → CutPlaces → CutPlaces
+cutAfter (refused n) p = p
+cutAfter (accepted none) p = record { found = false; index = p .index; left = p .left; right = p .right }
+cutAfter (accepted (cut i l r)) p = record { found = true; index = i; left = l; right = r }
+
+-- a limit handed over as a bool beside a double, and a least share count as a bool beside a number
+abbrev pub limitGiven : Bool → Float → Limit
+limitGiven true x = limit.Given x
+limitGiven false x = limit.Absent
+
+abbrev pub sharesGiven : Bool → ℕ → MinShareCount
+sharesGiven true n = shares.Given n
+sharesGiven false n = shares.Absent
+
+abbrev pub filterGiven : ℕ → Bool → Float → Bool → Float → Bool → ℕ → StaticFilter
+filterGiven tags has-min min has-max max has-shares shares =
+    record { tags = tags; «min_module_size» = limitGiven has-min min; «max_module_size» = limitGiven has-max max; «min_share_count» = sharesGiven has-shares shares }
+
+-- an exported cut: its answer, and the places after it
+pub record CutExport (outcome : Outcome Chosen) (answer : ℕ) (before after : CutPlaces) : Type 0 where
+  pub number : answer ≡ numberOf outcome
+  pub places : after ≡ cutAfter outcome before
+
+-- an exported filter: its answer, and the place after it
+pub record FilterExport (outcome : Outcome Bool) (answer : ℕ) (before after : Bool) : Type 0 where
+  pub number : answer ≡ numberOf outcome
+  pub place : after ≡ valueOr outcome before
+
+-- an exported capture: its answer, and the lent areas after it
+pub record CaptureExport (g : capturing.Given) (answer : ℕ) (before after : capture.Areas) : Type 0 where
+  pub number : answer ≡ numberOf (capture.captureOutcome g before)
+  pub refusal : (n : ℕ) → capture.captureOutcome g before ≡ refused n → after ≡ before
+  pub answered : capture.captureOutcome g before ≡ accepted tt → capture.Written g before after
+
+-- an exported merge: its answer, and the lent areas after it
+pub record MergeExport (g : merge.Given) (answer : ℕ) (before after : merge.Areas) : Type 0 where
+  pub number : answer ≡ numberOf (merge.mergeOutcome g before)
+  pub refusal : (n : ℕ) → merge.mergeOutcome g before ≡ refused n → after ≡ before
+  pub answered : merge.mergeOutcome g before ≡ accepted tt → after ≡ merge.written g before

@@ -1,0 +1,27 @@
+-- The call Chunks (`split`), refusals included.
+use Prim.Native.Nat.{ℕ}
+use mathlib.Core.List.{List, _++_}
+use mathlib.Core.Path.{_≡_}
+use lib.ListN.{length}
+use Rattle.refusal.specs.Outcome.{Outcome, refused, accepted, Test, outcome}
+use Rattle.grouping.specs.Given.{Given, Areas}
+use Rattle.grouping.specs.ChunkList.{chunkList}
+use Rattle.grouping.specs.Written.{written}
+use Rattle.grouping.specs.Conditions.{inputTests, stateTests}
+
+-- the conditions that Chunks tests: all, in their order
+unfoldable pub chunksTests : Given → Areas → List Test
+unfolding inputTests stateTests
+chunksTests b a = inputTests b ++ stateTests b a
+
+-- "The answer is the count of new chunks."
+unfoldable pub chunksOutcome : Given → Areas → Outcome ℕ
+unfolding chunksTests outcome chunkList
+chunksOutcome b a = outcome (chunksTests b a) (length (chunkList b))
+
+-- The call: what is handed in, the answer, and the content of the lent areas before and after it. From it alone follow the answer and the
+-- final content of everything lent.
+pub record ChunksCall (b : Given) (answer : Outcome ℕ) (before after : Areas) : Type 0 where
+  pub number : answer ≡ chunksOutcome b before
+  pub refusal : (n : ℕ) → answer ≡ refused n → after ≡ before
+  pub answered : (count : ℕ) → answer ≡ accepted count → after ≡ written b before

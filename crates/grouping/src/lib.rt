@@ -1,0 +1,1 @@
+// The definition of the chunk list. No code.

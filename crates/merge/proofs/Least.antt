@@ -1,0 +1,48 @@
+-- The first element of a list in an order: one element more at the end, what holds of each element holds of it, and there is none only of no element.
+use Prim.Native.Nat.{ℕ}
+use mathlib.Core.Bool.{Bool, true, false, cond}
+use mathlib.Core.List.{List, [], _∷_, _++_, foldl}
+use mathlib.Core.Option.{none, some}
+use mathlib.Core.Path.{_≡_, refl, ap, _∙_, subst}
+use native.Mathlib.Omega.{arith}
+use Rattle.lists.specs.Keep.{keep, keepHead}
+use Rattle.lists.specs.Least.{earlier, least}
+use Rattle.lists.proofs.Fold.{foldl-append}
+use Rattle.lists.proofs.Keep.{Each, more, keep-append}
+use Rattle.merge.specs.Search.{looked}
+
+module _ {A : Type 0} (before : A → A → Bool) where
+  pub least-snoc : (l : List A) (x : A) → least before (l ++ (x ∷ [])) ≡ looked before true (least before l) x
+  unfolding least looked
+  least-snoc [] x = refl
+  least-snoc (y ∷ l) x = ap some (foldl-append (earlier before) y l (x ∷ []))
+
+  -- one element more that is looked at
+  keep-snoc : (t : Bool) (l : List A) (x : A) → least before (l ++ keepHead t x []) ≡ looked before t (least before l) x
+  unfolding keepHead looked
+  keep-snoc true l x = least-snoc l x
+  keep-snoc false l x = ap (least before) (mathlib.Core.List.append-nil l)
+
+  pub least-more : (p : A → Bool) (l : List A) (x : A) → least before (keep p (l ++ (x ∷ []))) ≡ looked before (p x) (least before (keep p l)) x
+  unfolding keep
+  least-more p l x = ap (least before) (keep-append p l (x ∷ [])) ∙ keep-snoc (p x) (keep p l) x
+
+  pub least-none : (l : List A) → least before l ≡ none → l ≡ []
+  unfolding least
+  least-none [] e = refl
+  least-none (x ∷ l) e = absurd (let z : _≡_ {A = ℕ} 0 1 = cc in omega arith)
+
+  -- ---- what holds of each element
+  module _ (P : A → Type 0) where
+    either : (b : Bool) (x y : A) → P x → P y → P (cond b x y)
+    either true x y p q = p
+    either false x y p q = q
+
+    fold-each : (l : List A) (x : A) → P x → Each P l → P (foldl (earlier before) x l)
+    fold-each [] x p r = p
+    fold-each (y ∷ l) x p (more q r) = fold-each l (earlier before x y) (either (before y x) y x q p) r
+
+    pub least-each : (l : List A) (x : A) → Each P l → least before l ≡ some x → P x
+    unfolding least
+    least-each [] x r e = absurd (let z : _≡_ {A = ℕ} 0 1 = cc in omega arith)
+    least-each (y ∷ l) x (more p r) e = let q : foldl (earlier before) y l ≡ x = cc in subst P q (fold-each l y p r)

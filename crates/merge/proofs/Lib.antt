@@ -1,0 +1,22 @@
+-- The laws of the definitions of specs/.
+pub mod Doubles
+pub mod Looking
+pub mod Rows
+pub mod Front
+pub mod Least
+pub mod There
+pub mod Kept
+pub mod Totals
+pub mod Uniting
+pub mod Moving
+pub mod Joining
+pub mod Next
+pub mod Ending
+pub mod Turning
+pub mod Starting
+pub mod Areas
+pub mod Refusals
+pub mod Joins
+pub mod Union
+pub mod Keeping
+pub mod Laws

@@ -1,0 +1,107 @@
+-- The tests of the call, in its order: which number each condition gives once those before it do not apply, and what is known once none does.
+use Prim.Native.Nat.{ℕ, _*_, _≤_}
+use mathlib.Core.Bool.{Bool, true, false, _||_, cond}
+use mathlib.Core.Path.{_≡_, refl, sym, _∙_}
+use native.Mathlib.Omega.{arith}
+use borrow.Author.Tests.{ltb-false, eqb-true, not-false}
+use lib.Dec.{ltb, eqb}
+use lib.Ieee.{isNan}
+use lib.ListN.{length}
+use Rattle.lists.proofs.Below.{neither}
+use Rattle.refusal.specs.Outcome.{Outcome, refused, accepted, outcome, ascending}
+use Rattle.refusal.specs.Counts.{moduleLimit, entryLimit, badLength}
+use Rattle.whole.specs.Total.{totalExceeds}
+use Rattle.whole.proofs.Total as total
+use Rattle.bitset.specs.Entries.{anyBeyond}
+use Rattle.merge.specs.Call.{Given, Areas, mergeTests, mergeOutcome, written, Ready, MergeCall}
+use Rattle.merge.specs.declared.MergeAnswer.the-variants.{Refused, Done}
+
+-- the numbers ascend, so that the number answered is the lowest that applies
+pub tests-ascend : (g : Given) (a : Areas) → ascending (mergeTests g a) ≡ true
+unfolding mergeTests ascending
+tests-ascend g a = refl
+
+never : (n : ℕ) → _≡_ {A = Outcome Unit} (refused n) (accepted tt) → ⊥
+never n e = let z : _≡_ {A = ℕ} 0 1 = cc in omega arith
+
+module _ (g : Given) (a : Areas) where
+  refuses : (n : ℕ) → mergeOutcome g a ≡ refused n → MergeCall g (Refused n) a a
+  refuses n e = record { number = sym e; refusal = λ m q. refl; answered = λ q. absurd (never n (sym e ∙ q)) }
+
+  -- ---- the conditions that have several parts
+
+  abbrev pub bad-1 : Bool
+  bad-1 = ltb moduleLimit (g .k) || ltb entryLimit (g .entries)
+
+  abbrev pub bad-2 : Bool
+  bad-2 = badLength (g .sizes) (g .k) || badLength (g .bits) (4 * g .k)
+
+  abbrev pub bad-12 : Bool
+  bad-12 = ltb (length (a .numbers)) (g .k) || (ltb (length (a .sizes)) (g .k) || ltb (length (a .bits)) (4 * g .k))
+
+  outcome-is : mergeOutcome g a
+      ≡ cond bad-1 (refused 1)
+      (cond bad-2 (refused 2)
+      (cond (totalExceeds (g .sizes)) (refused 6)
+      (cond (isNan (g .threshold)) (refused 8) (cond (anyBeyond (g .entries) (g .bits) (g .k)) (refused 9) (cond bad-12 (refused 12) (accepted tt))))))
+  unfolding mergeOutcome mergeTests outcome
+  outcome-is = refl
+
+  -- ---- one test after the other
+
+  pub refuses-1 : bad-1 ≡ true → MergeCall g (Refused 1) a a
+  refuses-1 e = refuses 1 (outcome-is ∙ rw e)
+
+  module _ (p1 : bad-1 ≡ false) where
+    pub few : g .k ≤ moduleLimit
+    few = ltb-false moduleLimit (g .k) (neither (ltb moduleLimit (g .k)) (ltb entryLimit (g .entries)) p1 .0)
+
+    pub refuses-2 : bad-2 ≡ true → MergeCall g (Refused 2) a a
+    refuses-2 e = refuses 2 (outcome-is ∙ rw (p1, e))
+
+    module _ (p2 : bad-2 ≡ false) where
+      fit : (badLength (g .sizes) (g .k) ≡ false) × (badLength (g .bits) (4 * g .k) ≡ false)
+      fit = neither (badLength (g .sizes) (g .k)) (badLength (g .bits) (4 * g .k)) p2
+
+      pub sizes-fit : length (g .sizes) ≡ g .k
+      sizes-fit = eqb-true (length (g .sizes)) (g .k) (not-false (eqb (length (g .sizes)) (g .k)) (fit .0))
+
+      pub bits-fit : length (g .bits) ≡ 4 * g .k
+      bits-fit = eqb-true (length (g .bits)) (4 * g .k) (not-false (eqb (length (g .bits)) (4 * g .k)) (fit .1))
+
+      pub refuses-6 : totalExceeds (g .sizes) ≡ true → MergeCall g (Refused 6) a a
+      refuses-6 e = refuses 6 (outcome-is ∙ rw (p1, p2, e))
+
+      module _ (p6 : totalExceeds (g .sizes) ≡ false) where
+        pub refuses-8 : isNan (g .threshold) ≡ true → MergeCall g (Refused 8) a a
+        refuses-8 e = refuses 8 (outcome-is ∙ rw (p1, p2, p6, e))
+
+        module _ (p8 : isNan (g .threshold) ≡ false) where
+          pub refuses-9 : anyBeyond (g .entries) (g .bits) (g .k) ≡ true → MergeCall g (Refused 9) a a
+          refuses-9 e = refuses 9 (outcome-is ∙ rw (p1, p2, p6, p8, e))
+
+          module _ (p9 : anyBeyond (g .entries) (g .bits) (g .k) ≡ false) where
+            pub refuses-12 : bad-12 ≡ true → MergeCall g (Refused 12) a a
+            refuses-12 e = refuses 12 (outcome-is ∙ rw (p1, p2, p6, p8, p9, e))
+
+            -- ---- none applies
+            module _ (p12 : bad-12 ≡ false) where
+              pub ready : Ready (g .k) (g .sizes) (g .bits) a
+              ready =
+                  let rooms = neither (ltb (length (a .numbers)) (g .k)) (ltb (length (a .sizes)) (g .k) || ltb (length (a .bits)) (4 * g .k)) p12 in
+                  let two = neither (ltb (length (a .sizes)) (g .k)) (ltb (length (a .bits)) (4 * g .k)) (rooms .1) in
+                  record {
+                    count = few;
+                    sizes-fit = sizes-fit;
+                    bits-fit = bits-fit;
+                    exact = total.accepted (g .sizes) p6;
+                    numbers-room = ltb-false (length (a .numbers)) (g .k) (rooms .0);
+                    sizes-room = ltb-false (length (a .sizes)) (g .k) (two .0);
+                    bits-room = ltb-false (length (a .bits)) (4 * g .k) (two .1);
+                  }
+
+              accepts : mergeOutcome g a ≡ accepted tt
+              accepts = outcome-is ∙ rw (p1, p2, p6, p8, p9, p12)
+
+              pub done : (after : Areas) → after ≡ written g a → MergeCall g Done a after
+              done after e = record { number = sym accepts; refusal = λ m q. absurd (never m (sym q ∙ accepts)); answered = λ q. e }

@@ -1,0 +1,83 @@
+// Subgroups in tables: a size and four words of entry bits a row.
+use crate::subgroup::Subgroup;
+use bitset::entries::BitSet;
+use bitset::table::row;
+ghost use mathlib.Core.Path.{_≡_};
+ghost use mathlib.Core.Bool.{true};
+ghost use mathlib.Core.List.{map};
+ghost use Prim.Native.Nat.{_*_, _+_, _≤_, _<_, _^_};
+ghost use lib.ListN.{length, getD};
+ghost use lib.Ieee.{binary64, inUnsigned};
+ghost use Rattle.merge.specs.Tables.{subgroupAt};
+ghost use Rattle.merge.specs.Search.{held};
+ghost use Rattle.merge.specs.Engine.{renamed, withSize, withRow, withBits, InRow};
+
+// Subgroup i, its size as a double.
+pub fn subgroup_at(sizes: &[u64], bits: &[u64], i: usize) -> Subgroup
+    requires { ⌜ InRow (now sizes) (now bits) i ⌝ }
+    requires { ⌜ getD (now sizes) i 0 ≤ 2 ^ 53 ⌝ }
+    ensures { λ r. ⌜ held r ≡ subgroupAt (now (sizes .entry)) (now (bits .entry)) i ⌝ }
+{
+    Subgroup {
+        number: i,
+        size: sizes[i] as f64,
+        bits: row(bits, i),
+    }
+}
+
+// Writes the four words of row i.
+fn store_row(table: &mut [u64], i: usize, set: BitSet)
+    requires { ⌜ 4 * i + 4 ≤ length (now table) ⌝ }
+    ensures { λ _. ⌜ now (table .exit) ≡ withRow (now (table .entry)) i set ⌝ }
+{
+    let words = set.words;
+    let at = 4 * i;
+    table[at] = words[0];
+    table[at + 1] = words[1];
+    table[at + 2] = words[2];
+    table[at + 3] = words[3];
+}
+
+// Writes a subgroup to its row: the size as a whole number again, which it is, and the bits.
+pub fn store(sizes: &mut [u64], bits: &mut [u64], s: Subgroup)
+    requires { ⌜ InRow (now sizes) (now bits) (s .number) ⌝ }
+    requires { ⌜ inUnsigned binary64 64 (s .size) ≡ true ⌝ }
+    ensures { λ _. ⌜ (now (sizes .exit) ≡ withSize (now (sizes .entry)) (held s)) × (now (bits .exit) ≡ withBits (now (bits .entry)) (held s)) ⌝ }
+{
+    let at = s.number;
+    sizes[at] = s.size as u64;
+    store_row(bits, at, s.bits);
+}
+
+// A number once `from` has joined `to`.
+fn renamed(n: u32, from: u32, to: u32) -> u32
+    ensures { λ r. ⌜ r ≡ renamed from to n ⌝ }
+{
+    if n == from {
+        return to;
+    }
+    n
+}
+
+// Whatever had the number `from` gets `to`.
+pub fn rename(numbers: &mut [u32], from: u32, to: u32)
+    ensures { λ _. ⌜ now (numbers .exit) ≡ map (renamed from to) (now (numbers .entry)) ⌝ }
+{
+    let mut i = 0;
+    while i < numbers.len() {
+        numbers[i] = renamed(numbers[i], from, to);
+        i = i + 1;
+    }
+}
+
+// Copies a table into an area of its length.
+pub fn copy(area: &mut [u64], table: &[u64])
+    requires { ⌜ length (now area) ≡ length (now table) ⌝ }
+    ensures { λ _. ⌜ now (area .exit) ≡ now (table .entry) ⌝ }
+{
+    let mut i = 0;
+    while i < area.len() {
+        area[i] = table[i];
+        i = i + 1;
+    }
+}

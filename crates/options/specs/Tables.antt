@@ -1,0 +1,63 @@
+-- The groups as flat tables, one entry a group each. A byte says which options a group has: 1 min_size, 2 max_size, 4 min_module_size,
+-- 8 max_module_size, 16 min_share_count, 32 recursion, summed; and 64 recursion on, 128 entries_aware.
+use Prim.Native.Nat.{ℕ}
+use mathlib.Core.Bool.{Bool, true, false}
+use mathlib.Core.List.{List}
+use lib.Ieee.{Float}
+use lib.ListN.{getD}
+use Rattle.whole.specs.Double.{toF64}
+use Rattle.bitset.specs.Word.{bit}
+use Rattle.limit.specs.declared.Limit.{Limit}
+use Rattle.limit.specs.declared.Limit.the-variants as limit
+use Rattle.filter.specs.declared.MinShareCount.{MinShareCount}
+use Rattle.filter.specs.declared.MinShareCount.the-variants as shares
+use Rattle.options.specs.declared.Recursion.{Recursion}
+use Rattle.options.specs.declared.Recursion.the-variants as recursion
+use Rattle.options.specs.declared.Options.{Options}
+use Rattle.options.specs.declared.Group.{Group}
+
+pub record GroupTables : Type 0 where
+  pub given : List ℕ
+  pub min-size : List Float
+  pub max-size : List Float
+  pub min-module-size : List Float
+  pub max-module-size : List Float
+  pub min-share-count : List ℕ
+  pub tags : List ℕ
+  pub priority : List ℕ
+  pub threshold : List Float
+
+abbrev pub limitIf : Bool → Float → Limit
+limitIf true x = limit.Given x
+limitIf false x = limit.Absent
+
+abbrev pub sharesIf : Bool → ℕ → MinShareCount
+sharesIf true x = shares.Given x
+sharesIf false x = shares.Absent
+
+abbrev pub recursionIf : Bool → Bool → Recursion
+recursionIf true true = recursion.On
+recursionIf true false = recursion.Off
+recursionIf false on = recursion.Absent
+
+-- the options of group g
+unfoldable pub groupAt : GroupTables → ℕ → Group
+unfolding bit
+groupAt t g =
+    let b = getD (t .given) g 0 in
+    let zero = toF64 0 in
+    record {
+      options =
+          record {
+            «min_size» = limitIf (bit b 0) (getD (t .min-size) g zero);
+            «max_size» = limitIf (bit b 1) (getD (t .max-size) g zero);
+            «min_module_size» = limitIf (bit b 2) (getD (t .min-module-size) g zero);
+            «max_module_size» = limitIf (bit b 3) (getD (t .max-module-size) g zero);
+            «min_share_count» = sharesIf (bit b 4) (getD (t .min-share-count) g 0);
+            recursion = recursionIf (bit b 5) (bit b 6);
+          };
+      tags = getD (t .tags) g 0;
+      priority = getD (t .priority) g 0;
+      «entries_aware» = bit b 7;
+      threshold = getD (t .threshold) g zero;
+    }

@@ -1,0 +1,92 @@
+-- Laws of chains: one record more, what more fuel gives once a chain has ended, and the range of the records on a chain.
+use Prim.Native.Nat.{ℕ, zero, suc, _+_, _≤_}
+use mathlib.Core.Bool.{Bool, true, false, _||_, false≢true}
+use mathlib.Core.List.{List, [], _∷_, List·Memᴰ, List·Memᴰ·cases-cons, List·Memᴰ·not-nil}
+use mathlib.Core.Logic.{⊎-elim}
+use mathlib.Core.Path.{_≡_, refl, sym, ap, _∙_}
+use native.Mathlib.Nat.{suc-add, zero-add}
+use native.Mathlib.Omega.{arith}
+use borrow.Author.Tests.{ne-eqb, eqb-false}
+use lib.Dec.{eqb}
+use lib.ListN.{getD}
+use Rattle.records.specs.Chain.{link, chainFrom, ended}
+
+-- ---- one record
+
+pub chain-end : (next : List ℕ) (fuel : ℕ) → chainFrom next fuel 0 ≡ []
+unfolding chainFrom link
+chain-end next zero = refl
+chain-end next (suc fuel) = refl
+
+pub chain-step : (next : List ℕ) (fuel r : ℕ) → (r ≡ 0 → ⊥) → chainFrom next (suc fuel) r ≡ r ∷ chainFrom next fuel (getD next r 0)
+unfolding chainFrom link
+chain-step next fuel r h = rw (ne-eqb r 0 h)
+
+pub ended-end : (next : List ℕ) (fuel : ℕ) → ended next fuel 0 ≡ true
+unfolding ended
+ended-end next zero = refl
+ended-end next (suc fuel) = refl
+
+pub ended-out : (next : List ℕ) (r : ℕ) → (r ≡ 0 → ⊥) → ended next 0 r ≡ false
+unfolding ended
+ended-out next r h = ne-eqb r 0 h
+
+pub ended-step : (next : List ℕ) (fuel r : ℕ) → (r ≡ 0 → ⊥) → ended next (suc fuel) r ≡ ended next fuel (getD next r 0)
+unfolding ended
+ended-step next fuel r h = rw (ne-eqb r 0 h)
+
+-- ---- fuel
+
+-- a chain that has ended within some records has ended within more
+pub ended-more : (next : List ℕ) (fuel r : ℕ) → ended next fuel r ≡ true → ended next (suc fuel) r ≡ true
+unfolding ended
+ended-more next zero r e = rw e
+ended-more next (suc fuel) r e = go (eqb r 0) e (ended-more next fuel (getD next r 0))
+  where
+    go : (b : Bool) → (b || ended next fuel (getD next r 0)) ≡ true → (ended next fuel (getD next r 0) ≡ true → ended next (suc fuel) (getD next r 0) ≡ true) → (b || ended next (suc fuel) (getD next r 0)) ≡ true
+    go true f rest = refl
+    go false f rest = rest f
+
+-- and more fuel gives the same list
+pub chain-more : (next : List ℕ) (fuel r : ℕ) → ended next fuel r ≡ true → chainFrom next (suc fuel) r ≡ chainFrom next fuel r
+unfolding chainFrom ended link
+chain-more next zero r e = rw e
+chain-more next (suc fuel) r e = go (eqb r 0) e (chain-more next fuel (getD next r 0))
+  where
+    go : (b : Bool) → (b || ended next fuel (getD next r 0)) ≡ true → (ended next fuel (getD next r 0) ≡ true → chainFrom next (suc fuel) (getD next r 0) ≡ chainFrom next fuel (getD next r 0)) → link b r (chainFrom next (suc fuel) (getD next r 0)) ≡ link b r (chainFrom next fuel (getD next r 0))
+    go true f rest = refl
+    go false f rest = ap (λ (l : List ℕ). r ∷ l) (rest f)
+
+pub chain-fuel : (next : List ℕ) (fuel more r : ℕ) → ended next fuel r ≡ true → chainFrom next (more + fuel) r ≡ chainFrom next fuel r
+chain-fuel next fuel zero r e = ap (λ (k : ℕ). chainFrom next k r) (zero-add fuel)
+chain-fuel next fuel (suc more) r e =
+    ap (λ (k : ℕ). chainFrom next k r) (suc-add more fuel) ∙ chain-more next (more + fuel) r (ended-fuel more) ∙ chain-fuel next fuel more r e
+  where
+    ended-fuel : (more : ℕ) → ended next (more + fuel) r ≡ true
+    ended-fuel zero = ap (λ (k : ℕ). ended next k r) (zero-add fuel) ∙ e
+    ended-fuel (suc more) = ap (λ (k : ℕ). ended next k r) (suc-add more fuel) ∙ ended-more next (more + fuel) r (ended-fuel more)
+
+-- so along a chain that ends the fuel stays what it is: the rest of the chain ends within it too, and the chain is the record and the rest
+pub rest-ended : (next : List ℕ) (fuel r : ℕ) → (r ≡ 0 → ⊥) → ended next fuel r ≡ true → ended next fuel (getD next r 0) ≡ true
+rest-ended next zero r h e = absurd (false≢true (sym (ended-out next r h) ∙ e))
+rest-ended next (suc fuel) r h e = ended-more next fuel (getD next r 0) (sym (ended-step next fuel r h) ∙ e)
+
+pub chain-rest : (next : List ℕ) (fuel r : ℕ) → (r ≡ 0 → ⊥) → ended next fuel r ≡ true → chainFrom next fuel r ≡ r ∷ chainFrom next fuel (getD next r 0)
+chain-rest next zero r h e = absurd (false≢true (sym (ended-out next r h) ∙ e))
+chain-rest next (suc fuel) r h e =
+    let rest : ended next fuel (getD next r 0) ≡ true = sym (ended-step next fuel r h) ∙ e in
+    chain-step next fuel r h ∙ ap (λ (l : List ℕ). r ∷ l) (sym (chain-more next fuel (getD next r 0) rest))
+
+-- ---- range
+
+-- where no next leads out of the table, every record on a chain that starts in it is one of the table's
+pub chain-in : (next : List ℕ) (d : ℕ) → ((r : ℕ) → 1 ≤ r → r ≤ d → getD next r 0 ≤ d) → (fuel r : ℕ) → r ≤ d → (k : ℕ) → List·Memᴰ k (chainFrom next fuel r) → (1 ≤ k) × (k ≤ d)
+unfolding chainFrom link
+chain-in next d step zero r h k m = absurd (List·Memᴰ·not-nil m)
+chain-in next d step (suc fuel) r h k m = go (eqb r 0) refl m (chain-in next d step fuel (getD next r 0))
+  where
+    go : (b : Bool) → eqb r 0 ≡ b → List·Memᴰ k (link b r (chainFrom next fuel (getD next r 0))) → (getD next r 0 ≤ d → (k : ℕ) → List·Memᴰ k (chainFrom next fuel (getD next r 0)) → (1 ≤ k) × (k ≤ d)) → (1 ≤ k) × (k ≤ d)
+    go true e m rest = absurd (List·Memᴰ·not-nil m)
+    go false e m rest =
+        let some : 1 ≤ r = omega (arith, eqb-false r 0 e) in
+        ⊎-elim (λ q. (omega arith, omega arith)) (λ t. rest (step r some h) k t) (List·Memᴰ·cases-cons m)

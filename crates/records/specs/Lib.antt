@@ -1,0 +1,3 @@
+-- Dependency records and their chains.
+pub mod Chain
+pub mod Bad

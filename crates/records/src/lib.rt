@@ -1,0 +1,76 @@
+// Dependency records: (module, next), numbered from 1, and refusal 7 over them.
+ghost use mathlib.Core.Path.{_≡_};
+ghost use mathlib.Core.Bool.{false};
+ghost use Prim.Native.Nat.{_+_, _≤_};
+ghost use lib.ListN.{length};
+ghost use Rattle.records.specs.Bad.{badFirst, badRecord, badChain, badRecords, RecordTables, ChainTables};
+
+// A first record above d.
+fn bad_first(first: &[u32], n: usize, d: usize) -> bool
+    requires { ⌜ n ≤ length (now first) ⌝ }
+    ensures { λ r. ⌜ r ≡ badFirst (now (first .entry)) n d ⌝ }
+{
+    let mut m = 0;
+    while m < n {
+        if d < first[m] as usize {
+            return true;
+        }
+        m = m + 1;
+    }
+    false
+}
+
+// A record from 1 to d with a next above d or a module not below n.
+fn bad_record(dependency: &[u32], next: &[u32], n: usize, d: usize) -> bool
+    requires { ⌜ (length (now dependency) ≡ d + 1) × (length (now next) ≡ d + 1) ⌝ }
+    ensures { λ r. ⌜ r ≡ badRecord (now (dependency .entry)) (now (next .entry)) n d ⌝ }
+{
+    let mut k = 0;
+    while k < d {
+        if d < next[k + 1] as usize {
+            return true;
+        }
+        if n <= dependency[k + 1] as usize {
+            return true;
+        }
+        k = k + 1;
+    }
+    false
+}
+
+// A chain without its zero within d records. The first bad chain leaves both loops.
+fn bad_chain(first: &[u32], next: &[u32], n: usize, d: usize) -> bool
+    requires { ⌜ ChainTables (now first) (now next) n d ⌝ }
+    ensures { λ r. ⌜ r ≡ badChain (now (first .entry)) (now (next .entry)) n d ⌝ }
+{
+    let mut bad = false;
+    let mut m = 0;
+    'modules: while m < n {
+        let mut r = first[m] as usize;
+        let mut left = d;
+        while r != 0 {
+            if left == 0 {
+                bad = true;
+                break 'modules;
+            }
+            left = left - 1;
+            r = next[r] as usize;
+        }
+        m = m + 1;
+    }
+    bad
+}
+
+// Refusal 7.
+pub fn bad_records(first: &[u32], dependency: &[u32], next: &[u32], n: usize, d: usize) -> bool
+    requires { ⌜ RecordTables (now first) (now dependency) (now next) n d ⌝ }
+    ensures { λ r. ⌜ r ≡ badRecords (now (first .entry)) (now (dependency .entry)) (now (next .entry)) n d ⌝ }
+{
+    if bad_first(first, n, d) {
+        return true;
+    }
+    if bad_record(dependency, next, n, d) {
+        return true;
+    }
+    bad_chain(first, next, n, d)
+}

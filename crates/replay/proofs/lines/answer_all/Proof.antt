@@ -1,0 +1,57 @@
+-- `replay::lines::answer_all` is safe and ends.
+-- There are no more lines than places passed, which the invariant says. The measure is what is left of the input.
+use Prim.Native.Nat.{_≤_, _-_}
+use native.Mathlib.Omega.{arith}
+use borrow.Author.Needs.{needs}
+use lib.ListN.{length}
+use Rattle.replay.proofs.lines.answer_all.Statement.{statement}
+use Rattle.replay.proofs.lines.answer_all.Tie as tie
+
+abbrev Inv-loop : tie.InvT-loop
+Inv-loop input at₀ number₀ at number = number ≤ at
+
+abbrev μ-loop : tie.MeasureT-loop
+μ-loop input at₀ number₀ at number = length input - at
+
+loop-holds : tie.Need-loop-holds Inv-loop μ-loop
+loop-holds c = search needs
+
+find-requires : tie.Need-find-requires Inv-loop μ-loop
+find-requires c κs = search needs
+
+add-number : tie.Need-add-number Inv-loop μ-loop
+add-number c = search needs
+
+part-requires : tie.Need-part-requires Inv-loop μ-loop
+part-requires c κs = search needs
+
+answer-line-requires : tie.Need-answer-line-requires Inv-loop μ-loop
+answer-line-requires c κs = search needs
+
+add-at : tie.Need-add-at Inv-loop μ-loop
+add-at c = omega (arith, c .before .before .find .ensures .1 (omega arith))
+
+loop-less : tie.Need-loop-less Inv-loop μ-loop
+loop-less c = search needs
+
+loop-again : tie.Need-loop-again Inv-loop μ-loop
+loop-again c = search needs
+
+returns : tie.Need-returns Inv-loop μ-loop
+returns c = search needs
+
+pub answer-all-spec : {M : Type 1} → statement M
+answer-all-spec =
+    tie.close
+    (tie.spec
+    Inv-loop
+    μ-loop
+    loop-holds
+    find-requires
+    add-number
+    part-requires
+    answer-line-requires
+    add-at
+    loop-less
+    loop-again
+    returns)

@@ -1,0 +1,220 @@
+// Capture: what is reached. Record 0 holds numbers out of every range, so that reading it would show.
+use crate::out;
+use capture::CaptureAnswer;
+use index::ModuleIdx;
+
+pub fn answered(label: &[u8], answer: CaptureAnswer) {
+    out::text(b"capture ");
+    out::text(label);
+    match answer {
+        CaptureAnswer::Refused(number) => out::refused(number),
+        CaptureAnswer::Done => out::text(b" done"),
+    }
+}
+
+// Up to four modules; areas have two entries more than four.
+pub fn show(
+    label: &[u8],
+    n: usize,
+    d: usize,
+    recursive: bool,
+    from: u32,
+    flags: &[u8],
+    first: &[u32],
+    dependency: &[u32],
+    next: &[u32],
+) {
+    let mut marks = [7u8; 6];
+    let mut scratch = [7u32; 6];
+    let answer = capture::add_module_and_dependencies_to_group_recursively(
+        n,
+        d,
+        recursive,
+        ModuleIdx(from),
+        flags,
+        first,
+        dependency,
+        next,
+        &mut marks,
+        &mut scratch,
+    );
+    answered(label, answer);
+    out::bytes(b"; marks", &marks);
+    out::words(b"; scratch", &scratch);
+    out::text(b"\n");
+}
+
+pub fn reached() {
+    let flags = [3u8; 4];
+    let out_of_range = 4294967295;
+    let none = [out_of_range];
+    show(b"alone", 4, 0, true, 2, &flags, &[0, 0, 0, 0], &none, &none);
+    show(
+        b"a chain of modules",
+        4,
+        3,
+        true,
+        0,
+        &flags,
+        &[1, 2, 3, 0],
+        &[out_of_range, 1, 2, 3],
+        &[out_of_range, 0, 0, 0],
+    );
+    show(
+        b"recursion off",
+        4,
+        3,
+        false,
+        0,
+        &flags,
+        &[1, 2, 3, 0],
+        &[out_of_range, 1, 2, 3],
+        &[out_of_range, 0, 0, 0],
+    );
+}
+
+pub fn along_chains() {
+    let flags = [3u8; 4];
+    let out_of_range = 4294967295;
+    show(
+        b"two on one chain",
+        4,
+        2,
+        true,
+        3,
+        &flags,
+        &[0, 0, 0, 1],
+        &[out_of_range, 0, 2],
+        &[out_of_range, 2, 0],
+    );
+    show(
+        b"a shared tail",
+        4,
+        3,
+        true,
+        0,
+        &flags,
+        &[1, 2, 0, 0],
+        &[out_of_range, 1, 2, 3],
+        &[out_of_range, 3, 3, 0],
+    );
+}
+
+pub fn round_circles() {
+    let flags = [3u8; 4];
+    let out_of_range = 4294967295;
+    show(
+        b"a circle of modules",
+        4,
+        3,
+        true,
+        1,
+        &flags,
+        &[1, 2, 3, 0],
+        &[out_of_range, 1, 2, 0],
+        &[out_of_range, 0, 0, 0],
+    );
+    show(
+        b"a module that names itself",
+        4,
+        1,
+        true,
+        0,
+        &flags,
+        &[1, 0, 0, 0],
+        &[out_of_range, 0],
+        &[out_of_range, 0],
+    );
+    show(
+        b"a repeated dependency",
+        4,
+        3,
+        true,
+        0,
+        &flags,
+        &[1, 0, 0, 0],
+        &[out_of_range, 3, 3, 3],
+        &[out_of_range, 2, 3, 0],
+    );
+}
+
+// Modules 0 to 2 name the next one; what stands at 1 stops the walk.
+pub fn stopped_between() {
+    let out_of_range = 4294967295;
+    let first = [1u32, 2, 3, 0];
+    let dependency = [out_of_range, 1, 2, 3];
+    let next = [out_of_range, 0, 0, 0];
+    show(
+        b"an assigned module in between",
+        4,
+        3,
+        true,
+        0,
+        &[3, 7, 3, 3],
+        &first,
+        &dependency,
+        &next,
+    );
+    show(
+        b"an excluded module in between",
+        4,
+        3,
+        true,
+        0,
+        &[3, 1, 3, 3],
+        &first,
+        &dependency,
+        &next,
+    );
+    show(
+        b"a module that is not normal in between",
+        4,
+        3,
+        true,
+        0,
+        &[3, 2, 3, 3],
+        &first,
+        &dependency,
+        &next,
+    );
+}
+
+pub fn stopped_at_start() {
+    let out_of_range = 4294967295;
+    let first = [1u32, 2, 3, 0];
+    let dependency = [out_of_range, 1, 2, 3];
+    let next = [out_of_range, 0, 0, 0];
+    show(
+        b"an assigned start",
+        4,
+        3,
+        true,
+        0,
+        &[7, 3, 3, 3],
+        &first,
+        &dependency,
+        &next,
+    );
+    show(
+        b"an excluded start, recursion off",
+        4,
+        3,
+        false,
+        0,
+        &[0, 3, 3, 3],
+        &first,
+        &dependency,
+        &next,
+    );
+    show(
+        b"another way round",
+        4,
+        4,
+        true,
+        0,
+        &[3, 7, 3, 3],
+        &[1, 0, 3, 4],
+        &[out_of_range, 1, 3, 3, 2],
+        &[out_of_range, 2, 0, 0, 0],
+    );
+}

@@ -1,0 +1,44 @@
+//! Reads the text to be answered.
+
+use std::{
+    fs,
+    io::{self, Read},
+    path::{Path, PathBuf},
+};
+
+/// Where the text comes from.
+pub struct Source(pub Option<PathBuf>);
+
+impl Source {
+    /// Its name in messages.
+    pub fn name(&self) -> String {
+        match &self.0 {
+            Some(path) => path.display().to_string(),
+            None => "standard input".into(),
+        }
+    }
+
+    /// The whole text; the error is a message.
+    pub fn text(&self) -> Result<String, String> {
+        let bytes = match &self.0 {
+            Some(path) => read_file(path),
+            None => read_standard_input(),
+        };
+        let bytes = bytes.map_err(|error| error.to_string())?;
+        String::from_utf8(bytes).map_err(|error| {
+            let good = &error.as_bytes()[..error.utf8_error().valid_up_to()];
+            let line = good.iter().filter(|byte| **byte == b'\n').count() + 1;
+            format!("line {line}: the text isn't UTF-8")
+        })
+    }
+}
+
+fn read_file(path: &Path) -> io::Result<Vec<u8>> {
+    fs::read(path)
+}
+
+fn read_standard_input() -> io::Result<Vec<u8>> {
+    let mut bytes = Vec::new();
+    io::stdin().lock().read_to_end(&mut bytes)?;
+    Ok(bytes)
+}

@@ -1,0 +1,21 @@
+//! Puts calls that are written as text to the proved library.
+//!
+//! [`ask`] lends the areas, calls, and looks at what was written; [`answer_all`] does so for each
+//! case of a text. The program `chunklist` reads the text from a file or from standard input.
+//!
+//! ```
+//! let case = &text::read_cases("sim first 61 6a\n").unwrap()[0];
+//! let asked = chunklist::ask(&case.question).unwrap();
+//! assert_eq!(asked.outcome, Ok(text::Answer::Sim(1)));
+//! assert!(asked.warnings.is_empty());
+//! ```
+#![forbid(unsafe_code)]
+#![warn(missing_docs)]
+
+mod answer_all;
+mod area;
+mod ask;
+
+pub use answer_all::{Messages, answer_all};
+pub use area::{Lent, Pattern};
+pub use ask::{Asked, Unsupported, ask};

@@ -1,0 +1,29 @@
+//! Runs the program.
+
+use std::{
+    io::Write,
+    process::{Command, Output, Stdio},
+};
+
+/// What a run came to.
+#[derive(Debug, PartialEq, Eq)]
+pub struct Ran {
+    pub answers: String,
+    pub messages: String,
+    pub status: Option<i32>,
+}
+
+/// Runs the program with arguments and a standard input.
+pub fn run(arguments: &[&str], input: &[u8]) -> Ran {
+    let mut program = Command::new(env!("CARGO_BIN_EXE_chunklist"));
+    program.args(arguments).stdin(Stdio::piped()).stdout(Stdio::piped()).stderr(Stdio::piped());
+    let mut child = program.spawn().expect("the program can be run");
+    // A program that reads no input may have ended before it is written.
+    let _ = child.stdin.take().expect("there is an input").write_all(input);
+    let Output { status, stdout, stderr } = child.wait_with_output().expect("the program ends");
+    Ran { answers: text(stdout), messages: text(stderr), status: status.code() }
+}
+
+fn text(bytes: Vec<u8>) -> String {
+    String::from_utf8(bytes).expect("the program writes UTF-8")
+}

@@ -1,0 +1,133 @@
+//! Deliberate faults: each faulty copy of the crate's text is run against the unchanged one and, on
+//! leaves, against the library.
+
+use std::panic::{AssertUnwindSafe, catch_unwind};
+
+use faults::Fault;
+use judge::Judge;
+use text::{Call, Question};
+
+use crate::{
+    generate::{self, figures},
+    rng::Rng,
+    side::{Library, Reference, Response, Side},
+};
+
+/// How a fault fared.
+pub struct Verdict {
+    pub fault: Fault,
+    /// Questions of its own call that were put to it, and those whose answers differ.
+    pub asked: u64,
+    pub noticed: u64,
+    /// Those that the library answered too, and those whose answers differ from the library's.
+    pub library_asked: u64,
+    pub library_noticed: u64,
+    /// Whole builds that were put to it, and those whose answers differ.
+    pub builds_asked: u64,
+    pub builds_noticed: u64,
+}
+
+/// The call that a fault spoils.
+pub fn call_of(fault: &Fault) -> Call {
+    Call::ALL.into_iter().find(|call| call.word() == fault.change.leaf).unwrap_or(Call::Chunks)
+}
+
+/// Whether a fault changes the answer to an accepted question.
+pub fn notices(fault: &Fault, question: &Question, expected: &Response) -> bool {
+    faulty(fault, question).as_ref() != Some(expected)
+}
+
+/// What a faulty copy says, unless it breaks off.
+fn faulty(fault: &Fault, question: &Question) -> Option<Response> {
+    let judge = Judge::of(fault.text);
+    catch_unwind(AssertUnwindSafe(|| judge.respond(question))).ok()
+}
+
+/// From now on a faulty copy that breaks off does so without a word.
+pub fn break_off_quietly() {
+    std::panic::set_hook(Box::new(|_| {}));
+}
+
+/// Runs every fault on figures, short questions and random ones.
+pub fn all(seed: u64, cases: u64) -> Vec<Verdict> {
+    let builds = questions(Call::Chunks, seed, cases);
+    let mut verdicts = Vec::new();
+    for call in Call::ALL {
+        let leaves = if call == Call::Chunks { Vec::new() } else { questions(call, seed, cases) };
+        for fault in faults::all().into_iter().filter(|fault| call_of(fault) == call) {
+            let of_leaves = count(&fault, &leaves);
+            let of_builds = count(&fault, &builds);
+            verdicts.push(Verdict {
+                asked: of_leaves.asked,
+                noticed: of_leaves.noticed,
+                library_asked: of_leaves.library_asked,
+                library_noticed: of_leaves.library_noticed,
+                builds_asked: of_builds.asked,
+                builds_noticed: of_builds.noticed,
+                fault,
+            });
+        }
+    }
+    verdicts
+}
+
+/// A question with the crate's answer, and the library's where it has the call.
+struct Known {
+    question: Question,
+    answer: Response,
+    library: Option<Response>,
+}
+
+/// How many questions were put to a fault, and how many of its answers differ.
+#[derive(Default)]
+struct Count {
+    asked: u64,
+    noticed: u64,
+    library_asked: u64,
+    library_noticed: u64,
+}
+
+/// How many of these a fault changes the answer to.
+fn count(fault: &Fault, questions: &[Known]) -> Count {
+    let mut count = Count::default();
+    for known in questions {
+        let response = faulty(fault, &known.question);
+        count.asked += 1;
+        count.noticed += u64::from(response.as_ref() != Some(&known.answer));
+        if let Some(library) = &known.library {
+            count.library_asked += 1;
+            count.library_noticed += u64::from(response.as_ref() != Some(library));
+        }
+    }
+    count
+}
+
+/// Figures and random questions of a call, and as many of its short ones.
+fn questions(call: Call, seed: u64, cases: u64) -> Vec<Known> {
+    let figures = figures::figures().expect("the figures can be read");
+    let mut questions: Vec<Question> =
+        figures.into_iter().map(|(case, _)| case.question).filter(|q| q.call() == call).collect();
+    let mut short = Vec::new();
+    generate::exhaustive(call, &mut |question| short.push(question));
+    let step = (short.len() as u64 / cases.max(1)).max(1);
+    questions.extend(short.into_iter().step_by(step as usize));
+    questions.extend((0..cases).map(|case| generate::random(call, &mut Rng::for_case(seed, case))));
+    questions.into_iter().filter_map(accepted).map(known).collect()
+}
+
+/// Has the library answer too.
+fn known((question, answer): (Question, Response)) -> Known {
+    let library = Some(Library.respond(&question)).filter(|said| *said != Response::Absent);
+    Known { question, answer, library }
+}
+
+/// A question with the crate's answer, if document 01 accepts it and the crate can be asked.
+pub fn accepted(question: Question) -> Option<(Question, Response)> {
+    if let Response::Refused(_) = Reference.respond(&question) {
+        return None;
+    }
+    match Judge::default().respond(&question) {
+        Response::Answered(answer) => Some((question, Response::Answered(answer))),
+        _ => None,
+    }
+}

@@ -1,0 +1,40 @@
+//! What happened while a chunk list was made, so that a run can say which kinds of build it saw.
+
+/// Something that happened.
+#[derive(Debug, Clone, Copy, PartialEq, Eq, PartialOrd, Ord)]
+pub enum Event {
+    /// A capture took a module that isn't its start.
+    Captured,
+    /// A matched module failed the filter.
+    Filtered,
+    /// An entries-aware set was divided into several subgroups.
+    Divided,
+    /// A subgroup joined another.
+    Joined,
+    /// An item was empty when its turn came.
+    Emptied,
+    /// An item was below its min_size.
+    Dropped,
+    /// An item was at its min_size exactly.
+    AtMinSize,
+    /// An item was at its max_size exactly.
+    AtMaxSize,
+    /// An item was above its max_size and was cut.
+    Cut,
+    /// An item was above its max_size and no cut was allowed.
+    Uncuttable,
+    /// A piece of a cut was cut again.
+    CutAgain,
+    /// Modules left an item that stayed.
+    Narrowed,
+    /// A chunk holds entries that none of its modules has.
+    WiderBits,
+}
+
+/// The events of one build, and from which starting item each chunk came.
+#[derive(Debug, Clone, Default)]
+pub struct Trace {
+    pub events: Vec<Event>,
+    /// For each chunk, the number of its item in the work list at the start.
+    pub origin: Vec<usize>,
+}

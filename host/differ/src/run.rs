@@ -1,0 +1,274 @@
+//! One run: questions put to the sides, every value compared, and counts of what was run.
+
+use std::time::{Duration, Instant};
+
+use judge::{Callbacks, Judge, Outside, Walk};
+use text::{Answer, Call, Case, Chunks, Question, Reply, tables};
+
+use crate::{
+    generate::{self, damage, figures, largest},
+    kinds::{self, Counts},
+    reference::{chunks::chunk_list, trace::Trace},
+    rng::Rng,
+    side::{Library, Reference, Response, Side},
+    walks::{self, Agreement},
+};
+
+/// How many disagreements are written out before the rest is only counted.
+const SHOWN: usize = 5;
+
+/// How much to run.
+#[derive(Debug, Clone, Copy)]
+pub struct Plan {
+    pub seed: u64,
+    /// Random questions for each leaf.
+    pub cases: u64,
+    /// Random whole builds.
+    pub builds: u64,
+}
+
+/// What was run of one call.
+#[derive(Debug, Clone, Default)]
+pub struct Tally {
+    pub figures: u64,
+    pub exhaustive: u64,
+    pub random: u64,
+    pub largest: u64,
+    /// Damaged questions, by the number that refuses them.
+    pub refused: [u64; 14],
+    pub library: LibraryTally,
+    pub seconds: Duration,
+}
+
+/// What was put to the library of one call.
+#[derive(Debug, Clone, Copy, Default)]
+pub struct LibraryTally {
+    /// Questions that it answered, and those that it refused.
+    pub answered: u64,
+    pub refused: u64,
+    /// Whole builds that it wasn't asked, since it doesn't have the call yet.
+    pub absent: u64,
+    /// Calls that wrote where they must not, or left scratch that isn't zero.
+    pub wrote: u64,
+}
+
+/// A run and what came of it.
+pub struct Run {
+    plan: Plan,
+    pub counts: Counts,
+    pub tallies: Vec<(Call, Tally)>,
+    /// How builds under another walk compared: same, reordered.
+    pub walks: [u64; 2],
+    /// Questions that were put to the sides.
+    asked: u64,
+    /// Of these, those with ids that aren't UTF-8, which the crate can't be asked.
+    pub not_text: u64,
+    pub disagreements: u64,
+    /// What was put to the library of the present call.
+    library: LibraryTally,
+}
+
+impl Run {
+    /// Runs everything that a plan says.
+    pub fn all(plan: Plan) -> Self {
+        let mut run = Self {
+            plan,
+            counts: Counts::default(),
+            tallies: Vec::new(),
+            walks: [0; 2],
+            asked: 0,
+            not_text: 0,
+            disagreements: 0,
+            library: LibraryTally::default(),
+        };
+        for call in Call::ALL {
+            let tally = run.call(call);
+            run.tallies.push((call, tally));
+        }
+        run
+    }
+
+    /// Everything for one call.
+    fn call(&mut self, call: Call) -> Tally {
+        let begin = Instant::now();
+        let mut tally = Tally { figures: self.figures(call), ..Tally::default() };
+        generate::exhaustive(call, &mut |question| {
+            self.check(&question);
+            tally.exhaustive += 1;
+        });
+        let count = if call == Call::Chunks { self.plan.builds } else { self.plan.cases };
+        for case in 0..count {
+            self.check(&generate::random(call, &mut self.rng(call, case)));
+            tally.random += 1;
+        }
+        for question in largest::largest(call, &mut self.rng(call, u64::MAX)) {
+            self.check(&question);
+            tally.largest += 1;
+        }
+        for case in 0..count / 2 {
+            self.check_damaged(call, case, &mut tally);
+        }
+        tally.library = std::mem::take(&mut self.library);
+        tally.seconds = begin.elapsed();
+        tally
+    }
+
+    /// The numbers for one case of one call.
+    fn rng(&self, call: Call, case: u64) -> Rng {
+        Rng::for_case(self.plan.seed + 1_000 * call as u64, case)
+    }
+
+    /// Document 01's figures, with the replies that the paper gives.
+    fn figures(&mut self, call: Call) -> u64 {
+        let figures = figures::figures().expect("the figures can be read");
+        let mut count = 0;
+        for (case, reply) in figures.into_iter().filter(|(_, reply)| reply.call == call) {
+            let paper = Response::from(reply.outcome);
+            let response = Reference.respond(&case.question);
+            self.expect("the paper", &paper, "reference", &response, &case.question);
+            match response {
+                Response::Answered(_) => self.check(&case.question),
+                _ => self.check_library(&case.question, &response),
+            }
+            count += 1;
+        }
+        count
+    }
+
+    /// Puts an accepted question to all sides.
+    fn check(&mut self, question: &Question) {
+        self.asked += 1;
+        let expected = Reference.respond(question);
+        let callbacks =
+            if self.asked.is_multiple_of(2) { Callbacks::Functions } else { Callbacks::Plainest };
+        // Only whole builds have ties that the order of walking decides.
+        let walk = if question.call() == Call::Chunks { Walk::Document } else { self.walk() };
+        let judge = Judge { callbacks, walk, ..Judge::default() };
+        let response = judge.respond(question);
+        if response == Response::Outside(Outside::IdIsNoText) {
+            self.not_text += 1;
+        } else {
+            self.expect(Reference.name(), &expected, judge.name(), &response, question);
+        }
+        self.check_library(question, &expected);
+        if let Response::Answered(answer) = &expected {
+            self.counts.note(question.call(), &kinds::of(question, answer));
+        }
+        if let Question::Chunks(chunks) = question {
+            self.check_walk(chunks, question);
+        }
+    }
+
+    /// An order of walking other than document 01's, by turns.
+    fn walk(&self) -> Walk {
+        match self.asked % 6 {
+            0 | 1 => Walk::Own,
+            2 => Walk::Inserted,
+            3 => Walk::Ascending,
+            4 => Walk::Descending,
+            _ => Walk::Shuffled(self.asked),
+        }
+    }
+
+    /// Puts a build to the crate under another order of walking.
+    fn check_walk(&mut self, chunks: &Chunks, question: &Question) {
+        let walk = self.walk();
+        let (document, Trace { origin, .. }) = chunk_list(&tables::of_chunks(chunks));
+        let judge = Judge { walk, ..Judge::default() };
+        let response = judge.respond(question);
+        let agreement = match &response {
+            Response::Answered(Answer::Chunks(other)) => walks::compare(&document, &origin, other),
+            _ => Agreement::Differs,
+        };
+        match agreement {
+            Agreement::Same => self.walks[0] += 1,
+            Agreement::Reordered => self.walks[1] += 1,
+            Agreement::Differs => {
+                let document = Response::Answered(Answer::Chunks(document));
+                self.report(
+                    Reference.name(),
+                    &document,
+                    &format!("crate, {walk:?}"),
+                    &response,
+                    question,
+                );
+            }
+        }
+    }
+
+    /// Damages a good question and looks at the number of its refusal.
+    fn check_damaged(&mut self, call: Call, case: u64, tally: &mut Tally) {
+        let mut rng = self.rng(call, case ^ 1 << 40);
+        let mut question = generate::plain(call, &mut rng);
+        if let Some(planted) = damage::damage(&mut rng, &mut question) {
+            let response = Reference.respond(&question);
+            let planted_response = Response::Refused(planted);
+            self.expect("planted", &planted_response, Reference.name(), &response, &question);
+            self.check_library(&question, &planted_response);
+            tally.refused[planted as usize] += 1;
+        }
+    }
+
+    /// The library has to say the same and to write nowhere else; whole builds may wait.
+    fn check_library(&mut self, question: &Question, expected: &Response) {
+        let response = Library.respond(question);
+        match response {
+            Response::Answered(_) => self.library.answered += 1,
+            Response::Refused(_) => self.library.refused += 1,
+            Response::Wrote(..) => self.library.wrote += 1,
+            Response::Outside(_) => {}
+            Response::Absent => {
+                self.library.absent += 1;
+                if question.call() == Call::Chunks {
+                    return;
+                }
+            }
+        }
+        self.expect(Reference.name(), expected, Library.name(), &response, question);
+    }
+
+    fn expect(
+        &mut self,
+        one: &str,
+        expected: &Response,
+        other: &str,
+        response: &Response,
+        question: &Question,
+    ) {
+        if expected != response {
+            self.report(one, expected, other, response, question);
+        }
+    }
+
+    /// Writes a disagreement out.
+    fn report(
+        &mut self,
+        one: &str,
+        expected: &Response,
+        other: &str,
+        response: &Response,
+        question: &Question,
+    ) {
+        self.disagreements += 1;
+        if self.disagreements as usize <= SHOWN {
+            let tag = format!("disagreement{}", self.disagreements);
+            println!("{}", Case { tag: tag.clone(), question: question.clone() });
+            println!("# {one}\n{}", written(&tag, question.call(), expected));
+            println!("# {other}\n{}", written(&tag, question.call(), response));
+        }
+    }
+}
+
+/// A response in the text form.
+pub fn written(tag: &str, call: Call, response: &Response) -> String {
+    let reply = |outcome, warnings: &[String]| {
+        Reply { tag: tag.into(), call, outcome, warnings: warnings.to_vec() }.to_string()
+    };
+    match response {
+        Response::Answered(answer) => reply(Ok(answer.clone()), &[]),
+        Response::Refused(number) => reply(Err(*number), &[]),
+        Response::Wrote(outcome, warnings) => reply(outcome.clone(), warnings),
+        Response::Outside(outside) => format!("# {tag} can't be asked: {outside}\n"),
+        Response::Absent => format!("# {tag} can't be asked: there is no such call yet\n"),
+    }
+}

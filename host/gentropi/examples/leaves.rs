@@ -1,0 +1,36 @@
+//! The five calls on small inputs: `cargo run -p gentropi --example leaves`.
+
+use gentropi::{
+    Chains, FilteredModule, IdBuf, Refusal, StaticFilter, Subgroups, capture_to_vec, cut, filter,
+    flag, merge_to_vec, similarity,
+};
+
+fn main() -> Result<(), Refusal> {
+    println!("similarity of two paths: {}", similarity(b"src/a", b"src/b")?);
+
+    let ids = IdBuf::from_iter(["ui/a", "ui/b", "vendor/b"]);
+    match cut(ids.as_ids(), &[10, 10, 10], 0.0, 20.0)? {
+        Some(cut) => println!("cut after {}: {} and {}", cut.index, cut.left_size, cut.right_size),
+        None => println!("no cut"),
+    }
+
+    let at_most_10 = StaticFilter { max_module_size: Some(10.0), ..StaticFilter::default() };
+    let module = FilteredModule { size: 11, ..FilteredModule::default() };
+    println!("11 bytes where 10 are allowed: {}", filter(&at_most_10, module)?);
+
+    // 0 depends on 1 and 3, 1 on 2; module 1 has been assigned before.
+    let chains = Chains::from_lists([vec![1, 3], vec![2], vec![], vec![]]);
+    let flags = [flag::ELIGIBLE, flag::ELIGIBLE | flag::ASSIGNED, flag::ELIGIBLE, flag::ELIGIBLE];
+    println!("captured from 0: {:?}", capture_to_vec(chains.modules(&flags), 0, true)?);
+
+    let bits = [[1, 0, 0, 0], [2, 0, 0, 0], [3, 0, 0, 0]];
+    let subgroups = Subgroups { entries: 2, sizes: &[5, 100, 50], bits: &bits };
+    for (number, merged) in merge_to_vec(subgroups, 10.0)?.into_iter().enumerate() {
+        println!("subgroup {number} ended in {} with {} bytes", merged.number, merged.size);
+    }
+
+    // What doesn't fit is refused: two sizes for three ids.
+    let refusal = cut(ids.as_ids(), &[10, 10], 0.0, 20.0).expect_err("the lengths differ");
+    println!("{refusal}");
+    Ok(())
+}

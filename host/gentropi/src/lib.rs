@@ -1,0 +1,67 @@
+//! Safe Rust over the proved library of the chunk list.
+//!
+//! The library groups the modules of a build by the rules of manual code splitting. It is written
+//! in Rattle and proved: every call may be handed anything, answers what its contract says, and
+//! stays within what it is lent. So nothing here tests a length, a number or a limit; what doesn't
+//! fit comes back as a [`Refusal`], which carries its number, and the lent areas are untouched.
+//!
+//! | call | asks | answers |
+//! |---|---|---|
+//! | [`similarity`] | how alike two stable ids are | a score |
+//! | [`cut`] | where an oversized list of modules is cut in two | a [`Cut`], or none |
+//! | [`filter`] | whether a module passes a group's static limits | yes or no |
+//! | [`capture`] | what a module captures along its dependencies | a mark for each module |
+//! | [`merge`] | which small subgroups join which | numbers, sizes and entry bits |
+//!
+//! Areas are lent by the caller and may be longer than needed: what lies past the end keeps its
+//! content. [`capture_to_vec`] and [`merge_to_vec`] lend areas of their own. [`raw`] has the calls
+//! with counts apart from lengths, and [`sys`] the C functions.
+//!
+//! # Example
+//!
+//! ```
+//! use gentropi::{IdBuf, Refusal, cut, similarity};
+//!
+//! # fn main() -> Result<(), Refusal> {
+//! assert_eq!(similarity(b"src/a", b"src/b")?, 49);
+//!
+//! // Three modules of 10 bytes each, none too small, 20 bytes at most on a side.
+//! let ids = IdBuf::from_iter(["ui/a", "ui/b", "vendor/b"]);
+//! let found = cut(ids.as_ids(), &[10, 10, 10], 0.0, 20.0)?.expect("a cut is allowed");
+//! assert_eq!((found.index, found.left_size, found.right_size), (2, 20.0, 10.0));
+//!
+//! // A limit that says nothing is refused, with a number and a meaning.
+//! let refusal = cut(ids.as_ids(), &[10, 10, 10], f64::NAN, 20.0).unwrap_err();
+//! assert_eq!(refusal, Refusal::NAN);
+//! assert_eq!(refusal.number(), 8);
+//! assert_eq!(refusal.to_string(), "refusal 8: a limit or a threshold is NaN");
+//! # Ok(())
+//! # }
+//! ```
+//!
+//! # Linking
+//!
+//! The build needs `libgentropi.a`, which `rt staticlib gentropi`, run at the root of the
+//! repository, proves and writes to `target/staticlib`. The variable `GENTROPI_LIB_DIR` names
+//! another folder for it.
+#![deny(unsafe_code)]
+#![warn(missing_docs)]
+
+mod capture;
+mod cut;
+mod filter;
+mod ids;
+pub mod limits;
+mod merge;
+#[allow(unsafe_code)]
+pub mod raw;
+mod refusal;
+#[allow(unsafe_code)]
+pub mod sys;
+
+pub use capture::{Chains, Modules, capture, capture_to_vec, flag};
+pub use cut::{Cut, cut};
+pub use filter::{FilteredModule, StaticFilter, filter};
+pub use ids::{IdBuf, Ids, similarity};
+pub use merge::{EntryBits, MergeAreas, Merged, Subgroups, merge, merge_to_vec};
+pub use refusal::Refusal;

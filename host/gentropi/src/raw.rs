@@ -1,0 +1,197 @@
+//! The calls one to one, over slices and places that the caller lends.
+//!
+//! Each function answers 0 or the number of a refusal, as the library does, and counts are apart
+//! from the lengths of the tables, so that also what is damaged can be handed over: the library
+//! refuses it. On a refusal all that is lent keeps its content. Most callers want the functions at
+//! the root of the crate; [`Refusal::check`](crate::Refusal::check) makes a `Result` of a number.
+//!
+//! ```
+//! use gentropi::{Refusal, raw};
+//!
+//! // Two modules are said to be there, and the tables have one.
+//! let tables = raw::CutTables {
+//!     n: 2,
+//!     bytes: b"a",
+//!     offsets: &[0, 1],
+//!     sizes: &[5],
+//!     minimum: 0.0,
+//!     maximum: 9.0,
+//! };
+//! let mut places = raw::CutPlaces::default();
+//! assert_eq!(Refusal::check(raw::cut(&tables, &mut places)), Err(Refusal::LENGTH));
+//! ```
+
+use crate::{FilteredModule, StaticFilter, sys};
+
+/// Similarity of two ids: writes `score`.
+pub fn similarity(lhs: &[u8], rhs: &[u8], score: &mut u32) -> u32 {
+    // SAFETY: every pointer is that of a live slice with its length, or of a live place; a place
+    // is lent to this call alone. The library is proved to stay within them for every content.
+    unsafe { sys::gentropi_similarity(lhs.as_ptr(), lhs.len(), rhs.as_ptr(), rhs.len(), score) }
+}
+
+/// What Cut is handed.
+#[derive(Debug, Clone, Copy, PartialEq)]
+pub struct CutTables<'a> {
+    /// How many modules there are.
+    pub n: usize,
+    /// The slice that the ids are parts of.
+    pub bytes: &'a [u8],
+    /// `n + 1` offsets into it.
+    pub offsets: &'a [u32],
+    /// The size of each module.
+    pub sizes: &'a [u64],
+    /// What each side has to reach.
+    pub minimum: f64,
+    /// What a side should not pass.
+    pub maximum: f64,
+}
+
+/// The places that Cut writes.
+#[derive(Debug, Clone, Copy, PartialEq, Default)]
+pub struct CutPlaces {
+    /// Whether there is a cut; the other places keep their content if there is none.
+    pub found: bool,
+    /// How many modules are on the left.
+    pub index: usize,
+    /// The size of the left side.
+    pub left: f64,
+    /// The size of the right side.
+    pub right: f64,
+}
+
+/// Cut of modules in the order given: writes the places.
+pub fn cut(tables: &CutTables<'_>, places: &mut CutPlaces) -> u32 {
+    // SAFETY: as in `similarity`; the four places are fields of one value that is lent to this call.
+    unsafe {
+        sys::gentropi_cut(
+            tables.n,
+            tables.bytes.as_ptr(),
+            tables.bytes.len(),
+            tables.offsets.as_ptr(),
+            tables.offsets.len(),
+            tables.sizes.as_ptr(),
+            tables.sizes.len(),
+            tables.minimum,
+            tables.maximum,
+            &mut places.found,
+            &mut places.index,
+            &mut places.left,
+            &mut places.right,
+        )
+    }
+}
+
+/// Filter on one module: writes whether it passes.
+pub fn filter(filter: &StaticFilter, module: FilteredModule, passes: &mut bool) -> u32 {
+    // SAFETY: as in `similarity`.
+    unsafe {
+        sys::gentropi_filter(
+            filter.mask,
+            filter.min_module_size.is_some(),
+            filter.min_module_size.unwrap_or_default(),
+            filter.max_module_size.is_some(),
+            filter.max_module_size.unwrap_or_default(),
+            filter.min_share_count.is_some(),
+            filter.min_share_count.unwrap_or_default(),
+            module.tags,
+            module.size,
+            module.share_count,
+            passes,
+        )
+    }
+}
+
+/// What Capture is handed.
+#[derive(Debug, Clone, Copy, PartialEq, Eq)]
+pub struct CaptureTables<'a> {
+    /// How many modules there are.
+    pub n: usize,
+    /// How many dependency records there are.
+    pub d: usize,
+    /// Whether dependencies are captured too.
+    pub recursive: bool,
+    /// The module to begin with.
+    pub start: u32,
+    /// The flag byte of each module.
+    pub flags: &'a [u8],
+    /// The first record of each module, or 0.
+    pub first: &'a [u32],
+    /// The module that each record names; `d + 1` numbers, of which the first is never read.
+    pub dependency: &'a [u32],
+    /// The record after each record, or 0; `d + 1` numbers, of which the first is never read.
+    pub next: &'a [u32],
+}
+
+/// Capture of a module: writes the first `n` marks, and zeros into all of `scratch`.
+pub fn capture(tables: &CaptureTables<'_>, marks: &mut [u8], scratch: &mut [u32]) -> u32 {
+    // SAFETY: as in `similarity`; the areas are lent to this call alone.
+    unsafe {
+        sys::gentropi_capture(
+            tables.n,
+            tables.d,
+            tables.recursive,
+            tables.start,
+            tables.flags.as_ptr(),
+            tables.flags.len(),
+            tables.first.as_ptr(),
+            tables.first.len(),
+            tables.dependency.as_ptr(),
+            tables.dependency.len(),
+            tables.next.as_ptr(),
+            tables.next.len(),
+            marks.as_mut_ptr(),
+            marks.len(),
+            scratch.as_mut_ptr(),
+            scratch.len(),
+        )
+    }
+}
+
+/// What Merge is handed.
+#[derive(Debug, Clone, Copy, PartialEq)]
+pub struct MergeTables<'a> {
+    /// How many subgroups there are.
+    pub k: usize,
+    /// How many entries there are.
+    pub entries: usize,
+    /// The size of each subgroup.
+    pub sizes: &'a [u64],
+    /// The entry bits of each subgroup, four words each.
+    pub bits: &'a [u64],
+    /// Below it a subgroup seeks another to join.
+    pub threshold: f64,
+}
+
+/// The areas that Merge writes.
+#[derive(Debug, PartialEq, Eq)]
+pub struct MergeAreas<'a> {
+    /// The number of the subgroup that each ended in.
+    pub numbers: &'a mut [u32],
+    /// The size of each, 0 for one that vanished.
+    pub sizes: &'a mut [u64],
+    /// The entry bits of each, four words each, 0 for one that vanished.
+    pub bits: &'a mut [u64],
+}
+
+/// Merge of small subgroups: writes the first `k` numbers and sizes and `4 * k` words of bits.
+pub fn merge(tables: &MergeTables<'_>, areas: MergeAreas<'_>) -> u32 {
+    // SAFETY: as in `similarity`; the areas are lent to this call alone.
+    unsafe {
+        sys::gentropi_merge(
+            tables.k,
+            tables.entries,
+            tables.sizes.as_ptr(),
+            tables.sizes.len(),
+            tables.bits.as_ptr(),
+            tables.bits.len(),
+            tables.threshold,
+            areas.numbers.as_mut_ptr(),
+            areas.numbers.len(),
+            areas.sizes.as_mut_ptr(),
+            areas.sizes.len(),
+            areas.bits.as_mut_ptr(),
+            areas.bits.len(),
+        )
+    }
+}

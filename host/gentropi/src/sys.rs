@@ -1,0 +1,93 @@
+//! The functions of the static library, as C sees them.
+//!
+//! A slice is a pointer and then its length in items. Each function answers 0, or the number of
+//! a refusal, and then nothing behind a `*mut` has changed. None has a condition on what it is
+//! handed: the library tests it. [`raw`](crate::raw) wraps each in a function that is safe to call.
+//!
+//! # Safety
+//!
+//! What a caller owes is the same for all: a `*const T` points to as many readable items as the
+//! length after it says, a `*mut T` to as many that may be written and that nothing else reaches
+//! during the call, and a pointer without a length after it to one item. Pointers are aligned and
+//! not null, also where the length is 0, and items are initialised.
+
+unsafe extern "C" {
+    /// Similarity of two ids. Writes `score`.
+    pub fn gentropi_similarity(
+        lhs: *const u8,
+        lhs_len: usize,
+        rhs: *const u8,
+        rhs_len: usize,
+        score: *mut u32,
+    ) -> u32;
+
+    /// Cut of `n` modules. Writes `found`, and if there is a cut the three others.
+    pub fn gentropi_cut(
+        n: usize,
+        bytes: *const u8,
+        bytes_len: usize,
+        offsets: *const u32,
+        offsets_len: usize,
+        sizes: *const u64,
+        sizes_len: usize,
+        minimum: f64,
+        maximum: f64,
+        found: *mut bool,
+        index: *mut usize,
+        left: *mut f64,
+        right: *mut f64,
+    ) -> u32;
+
+    /// Filter on one module; the number after a `false` is not read. Writes `passes`.
+    pub fn gentropi_filter(
+        mask: u64,
+        has_min: bool,
+        min_module_size: f64,
+        has_max: bool,
+        max_module_size: f64,
+        has_shares: bool,
+        min_share_count: u32,
+        tags: u64,
+        size: u64,
+        share_count: u32,
+        passes: *mut bool,
+    ) -> u32;
+
+    /// Capture of the module `from` among `n` modules with `d` records. Writes the first `n`
+    /// marks, and zeros into all of `scratch`.
+    pub fn gentropi_capture(
+        n: usize,
+        d: usize,
+        recursive: bool,
+        from: u32,
+        flags: *const u8,
+        flags_len: usize,
+        first: *const u32,
+        first_len: usize,
+        dependency: *const u32,
+        dependency_len: usize,
+        next: *const u32,
+        next_len: usize,
+        marks: *mut u8,
+        marks_len: usize,
+        scratch: *mut u32,
+        scratch_len: usize,
+    ) -> u32;
+
+    /// Merge of `k` subgroups. Writes the first `k` numbers and sizes and `4 * k` words of bits.
+    pub fn gentropi_merge(
+        k: usize,
+        entries: usize,
+        sizes: *const u64,
+        sizes_len: usize,
+        bits: *const u64,
+        bits_len: usize,
+        threshold: f64,
+        final_numbers: *mut u32,
+        final_numbers_len: usize,
+        final_sizes: *mut u64,
+        final_sizes_len: usize,
+        final_bits: *mut u64,
+        final_bits_len: usize,
+    ) -> u32;
+}

@@ -1,0 +1,3 @@
+//! The copies of the crate's text: unchanged, and with the probe.
+
+include!(concat!(env!("OUT_DIR"), "/copies.rs"));

@@ -1,0 +1,111 @@
+//! Leaf calls, put to one copy of the crate's text.
+
+use oxc_index::Idx;
+use rolldown_common::ModuleIdx;
+use rustc_hash::order::under;
+use text::{
+    Build, Capture, Cut, CutAnswer, Filter, Group, Merge, MergedSubgroup, Module, Options, Sim,
+};
+
+use crate::{
+    Callbacks, CrateText, Judge, Outside, World,
+    bits::{bit_set, words},
+    groups::with_options,
+    world::module_table,
+};
+
+/// Similarity of two ids.
+pub fn similarity(text: &CrateText, sim: &Sim) -> Result<u32, Outside> {
+    let value = (text.similarity)(id_text(&sim.left)?, id_text(&sim.right)?);
+    u32::try_from(value).map_err(|_| Outside::Broken(format!("similarity {value}")))
+}
+
+/// A cut of modules in the order given.
+pub fn cut(text: &CrateText, cut: &Cut) -> Result<Option<CutAnswer>, Outside> {
+    let ids = cut.modules.iter().map(|(id, _)| id_text(id)).collect::<Result<Vec<_>, _>>()?;
+    let sizes: Vec<f64> = cut.modules.iter().map(|(_, size)| *size as f64).collect();
+    let answer = (text.cut)(&ids, &sizes, cut.minimum, cut.maximum);
+    Ok(answer.map(|(index, left, right)| CutAnswer { index: index as u64, left, right }))
+}
+
+/// A capture from a start module.
+pub fn capture(text: &CrateText, capture: &Capture) -> Result<Vec<u8>, Outside> {
+    let flags = capture.flags.iter().zip(&capture.first);
+    let module = |(flags, first): (&u8, &u32)| Module {
+        flags: *flags,
+        first_record: *first,
+        ..Module::default()
+    };
+    let build = Build {
+        modules: flags.map(module).collect(),
+        records: capture.records.clone(),
+        ..Build::default()
+    };
+    let world = World::new(&build, Vec::new())?;
+    let start = ModuleIdx::from_usize(capture.start as usize);
+    let mut marks = vec![0; capture.flags.len()];
+    for module in (text.capture)(&world, start, capture.recursive) {
+        marks[module.index()] = 1;
+    }
+    Ok(marks)
+}
+
+/// The filter on one module. The limits are given to the group, or else to the build as a whole.
+pub fn filter(judge: &Judge, filter: &Filter) -> Result<bool, Outside> {
+    let module = Module {
+        flags: 3,
+        size: filter.size,
+        share_count: filter.share_count,
+        tags: filter.tags,
+        ..Module::default()
+    };
+    let options = Options {
+        min_module_size: filter.min_module_size,
+        max_module_size: filter.max_module_size,
+        min_share_count: filter.min_share_count,
+        ..Options::default()
+    };
+    let mut group = Group { options, mask: filter.mask, ..Group::default() };
+    let mut build = Build { modules: vec![module], ..Build::default() };
+    if judge.callbacks == Callbacks::Plainest {
+        std::mem::swap(&mut group.options, &mut build.options);
+    }
+    Ok((judge.text.filter)(&World::new(&build, vec![with_options(&group)])?))
+}
+
+/// A merge of subgroups, each with one module of its size.
+pub fn merge(judge: &Judge, merge: &Merge) -> Result<Vec<MergedSubgroup>, Outside> {
+    let module = |size| Module { flags: 3, size, ..Module::default() };
+    let modules: Vec<_> = merge.subgroups.iter().map(|subgroup| module(subgroup.size)).collect();
+    let bits: Vec<_> =
+        merge.subgroups.iter().map(|subgroup| bit_set(merge.entries, subgroup.bits)).collect();
+    let vanished = MergedSubgroup { number: u32::MAX, size: 0, bits: [0; 4] };
+    let mut merged = vec![vanished; modules.len()];
+    let threshold = merge.threshold.unwrap_or(0.0);
+    let module_table = module_table(&modules)?;
+    let numbers: Vec<u32> = (0..).take(modules.len()).collect();
+    let left =
+        under(judge.walk.orders(&numbers), || (judge.text.merge)(&module_table, &bits, threshold));
+    for remaining in left {
+        for module in remaining.modules {
+            merged[module.index()].number = remaining.key;
+        }
+        merged[remaining.key as usize].size = whole_number(remaining.size)?;
+        merged[remaining.key as usize].bits = words(&remaining.bits);
+    }
+    Ok(merged)
+}
+
+/// The crate's ids are texts.
+fn id_text(id: &[u8]) -> Result<&str, Outside> {
+    std::str::from_utf8(id).map_err(|_| Outside::IdIsNoText)
+}
+
+/// A size as the whole number that it has to be.
+fn whole_number(size: f64) -> Result<u64, Outside> {
+    let whole = size as u64;
+    if (whole as f64).to_bits() == size.to_bits() {
+        return Ok(whole);
+    }
+    Err(Outside::Broken(format!("a size of {size}")))
+}
