@@ -1,21 +1,20 @@
 // Filter.
-use crate::out;
 use filter::Filtered;
 use filter::MinShareCount;
 use filter::StaticFilter;
 use limit::Limit;
 
 fn show(label: &[u8], filter: StaticFilter, tags: u64, size: u64, shares: u32) {
-    out::text(b"filter ");
-    out::text(label);
+    lines::text(b"filter ");
+    lines::text(label);
     let answer = filter::passes_static_filters(filter, tags, size, shares);
     match answer {
-        Filtered::Refused(number) => out::refused(number),
+        Filtered::Refused(number) => lines::refused_line(number),
         Filtered::Passes(passes) => {
             if passes {
-                out::text(b": passes\n");
+                lines::text(b": passes\n");
             } else {
-                out::text(b": fails\n");
+                lines::text(b": fails\n");
             }
         }
     }

@@ -1,17 +1,16 @@
 // Similarity.
-use crate::out;
 use similarity::Similarity;
 
 fn show(label: &[u8], lhs: &[u8], rhs: &[u8]) {
-    out::text(b"similarity ");
-    out::text(label);
+    lines::text(b"similarity ");
+    lines::text(label);
     let answer = similarity::stable_id_similarity(lhs, rhs);
     match answer {
-        Similarity::Refused(n) => out::refused(n),
+        Similarity::Refused(n) => lines::refused_line(n),
         Similarity::Score(score) => {
-            out::text(b": ");
-            out::number(score as u64);
-            out::text(b"\n");
+            lines::text(b": ");
+            lines::number(score as u64);
+            lines::text(b"\n");
         }
     }
 }

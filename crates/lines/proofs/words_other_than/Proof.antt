@@ -1,11 +1,11 @@
--- `tablecases::out::words_other_than` is safe: it counts at most the words passed.
+-- `lines::words_other_than` is safe: it counts at most the words passed.
 use Prim.Native.Nat.{_≤_, _-_}
 use borrow.Author.Needs.{needs}
 use lib.ListN.{length}
 use native.Mathlib.Omega.{arith}
 use mathlib.Core.Logic.{⊎-elim}
-use Rattle.tablecases.proofs.out.words_other_than.Statement.{statement}
-use Rattle.tablecases.proofs.out.words_other_than.Tie as tie
+use Rattle.lines.proofs.words_other_than.Statement.{statement}
+use Rattle.lines.proofs.words_other_than.Tie as tie
 
 abbrev Inv-loop : tie.InvT-loop
 Inv-loop value area others₀ i₀ others i = (i ≤ length area) × (others ≤ i)

@@ -1,9 +1,9 @@
--- `tablecases::out::bytes` is safe: the loop stays within the area.
+-- `lines::long_words` is safe: the loop stays within the area.
 use Prim.Native.Nat.{_≤_, _-_}
 use borrow.Author.Needs.{needs}
 use lib.ListN.{length}
-use Rattle.tablecases.proofs.out.bytes.Statement.{statement}
-use Rattle.tablecases.proofs.out.bytes.Tie as tie
+use Rattle.lines.proofs.long_words.Statement.{statement}
+use Rattle.lines.proofs.long_words.Tie as tie
 
 abbrev Inv-loop : tie.InvT-loop
 Inv-loop label area i₀ i = i ≤ length area
@@ -17,11 +17,11 @@ text-requires c κs = search needs
 loop-holds : tie.Need-loop-holds Inv-loop μ-loop
 loop-holds c = search needs
 
-shared-slice-read-wide-byte : tie.Need-shared-slice-read-wide-byte Inv-loop μ-loop
-shared-slice-read-wide-byte c = search needs
+mul-spaced : tie.Need-mul-spaced Inv-loop μ-loop
+mul-spaced c = search needs
 
-wide-byte-requires : tie.Need-wide-byte-requires Inv-loop μ-loop
-wide-byte-requires c κs = search needs
+shared-slice-read-spaced : tie.Need-shared-slice-read-spaced Inv-loop μ-loop
+shared-slice-read-spaced c = search needs
 
 spaced-requires : tie.Need-spaced-requires Inv-loop μ-loop
 spaced-requires c κs = search needs
@@ -38,16 +38,16 @@ loop-again c = search needs
 returns : tie.Need-returns Inv-loop μ-loop
 returns c = search needs
 
-pub bytes-spec : {M : Type 1} → statement M
-bytes-spec =
+pub long-words-spec : {M : Type 1} → statement M
+long-words-spec =
     tie.close
     (tie.spec
     Inv-loop
     μ-loop
     text-requires
     loop-holds
-    shared-slice-read-wide-byte
-    wide-byte-requires
+    mul-spaced
+    shared-slice-read-spaced
     spaced-requires
     add-i
     loop-less

@@ -1,11 +1,9 @@
 // Capture: what it refuses, each beside the last that it accepts.
 use crate::captures::answered;
 use crate::captures::show;
-use crate::out;
 use index::ModuleIdx;
 
 pub fn module_tables() {
-    let none = [0u32];
     show(
         b"one flag too few",
         2,
@@ -14,8 +12,8 @@ pub fn module_tables() {
         0,
         &[3],
         &[0, 0],
-        &none,
-        &none,
+        &[0],
+        &[0],
     );
     show(
         b"one flag too many",
@@ -25,8 +23,8 @@ pub fn module_tables() {
         0,
         &[3, 3, 3],
         &[0, 0],
-        &none,
-        &none,
+        &[0],
+        &[0],
     );
     show(
         b"one first record too few",
@@ -36,14 +34,13 @@ pub fn module_tables() {
         0,
         &[3, 3],
         &[0],
-        &none,
-        &none,
+        &[0],
+        &[0],
     );
 }
 
 pub fn record_tables() {
-    let none = [0u32];
-    show(b"no record 0", 2, 0, true, 0, &[3, 3], &[0, 0], &[], &none);
+    show(b"no record 0", 2, 0, true, 0, &[3, 3], &[0, 0], &[], &[0]);
     show(
         b"one module too many",
         2,
@@ -53,7 +50,7 @@ pub fn record_tables() {
         &[3, 3],
         &[0, 0],
         &[0, 0],
-        &none,
+        &[0],
     );
     show(
         b"no next of record 0",
@@ -63,10 +60,10 @@ pub fn record_tables() {
         0,
         &[3, 3],
         &[0, 0],
-        &none,
+        &[0],
         &[],
     );
-    show(b"no module", 0, 0, true, 0, &[], &[], &none, &none);
+    show(b"no module", 0, 0, true, 0, &[], &[], &[0], &[0]);
 }
 
 pub fn firsts() {
@@ -211,7 +208,6 @@ pub fn circles_of_records() {
 }
 
 pub fn flag_bytes() {
-    let none = [0u32];
     show(
         b"a flag byte of 7",
         2,
@@ -220,8 +216,8 @@ pub fn flag_bytes() {
         0,
         &[3, 7],
         &[0, 0],
-        &none,
-        &none,
+        &[0],
+        &[0],
     );
     show(
         b"a flag byte of 8",
@@ -231,25 +227,14 @@ pub fn flag_bytes() {
         0,
         &[3, 8],
         &[0, 0],
-        &none,
-        &none,
+        &[0],
+        &[0],
     );
 }
 
 pub fn starts() {
-    let none = [0u32];
-    show(
-        b"start N - 1",
-        2,
-        0,
-        true,
-        1,
-        &[3, 3],
-        &[0, 0],
-        &none,
-        &none,
-    );
-    show(b"start N", 2, 0, true, 2, &[3, 3], &[0, 0], &none, &none);
+    show(b"start N - 1", 2, 0, true, 1, &[3, 3], &[0, 0], &[0], &[0]);
+    show(b"start N", 2, 0, true, 2, &[3, 3], &[0, 0], &[0], &[0]);
     show(
         b"a bad flag and a bad record",
         2,
@@ -258,8 +243,8 @@ pub fn starts() {
         0,
         &[3, 8],
         &[0, 1],
-        &none,
-        &none,
+        &[0],
+        &[0],
     );
 }
 
@@ -278,9 +263,9 @@ fn lent(label: &[u8], marks: &mut [u8], scratch: &mut [u32]) {
         scratch,
     );
     answered(label, answer);
-    out::bytes(b"; marks", marks);
-    out::words(b"; scratch", scratch);
-    out::text(b"\n");
+    lines::bytes(b"; marks", marks);
+    lines::words(b"; scratch", scratch);
+    lines::text(b"\n");
 }
 
 pub fn areas() {
@@ -316,10 +301,10 @@ pub fn largest() {
         &mut scratch,
     );
     answered(b"4,096 modules, 65,535 records", answer);
-    out::last_bytes(b"; last marks", &marks);
-    out::text(b"; scratch other than 0: ");
-    out::words_other_than(0, &scratch);
-    out::text(b"\n");
+    lines::last_bytes(b"; last marks", &marks);
+    lines::text(b"; scratch other than 0: ");
+    lines::words_other_than(0, &scratch);
+    lines::text(b"\n");
 }
 
 // One module more, and one record more.
@@ -344,7 +329,7 @@ pub fn too_many() {
         &mut scratch,
     );
     answered(b"4,097 modules", modules);
-    out::text(b"\n");
+    lines::text(b"\n");
     let records = capture::add_module_and_dependencies_to_group_recursively(
         1,
         65536,
@@ -358,5 +343,5 @@ pub fn too_many() {
         &mut scratch,
     );
     answered(b"65,536 records", records);
-    out::text(b"\n");
+    lines::text(b"\n");
 }

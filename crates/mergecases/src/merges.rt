@@ -1,13 +1,12 @@
 // Merge: the figures, and what else it accepts. Areas have room for one subgroup more than three.
-use crate::out;
 use merge::MergeAnswer;
 
 pub fn answered(label: &[u8], answer: MergeAnswer) {
-    out::text(b"merge ");
-    out::text(label);
+    lines::text(b"merge ");
+    lines::text(label);
     match answer {
-        MergeAnswer::Refused(number) => out::refused(number),
-        MergeAnswer::Done => out::text(b" done"),
+        MergeAnswer::Refused(number) => lines::refused(number),
+        MergeAnswer::Done => lines::text(b" done"),
     }
 }
 
@@ -26,10 +25,10 @@ pub fn show(label: &[u8], k: usize, entries: usize, sizes: &[u64], bits: &[u64],
         &mut new_bits,
     );
     answered(label, answer);
-    out::words(b"; numbers", &numbers);
-    out::long_words(b"; sizes", &new_sizes);
-    out::long_words(b"; bits", &new_bits);
-    out::text(b"\n");
+    lines::words(b"; numbers", &numbers);
+    lines::long_words(b"; sizes", &new_sizes);
+    lines::long_words(b"; bits", &new_bits);
+    lines::text(b"\n");
 }
 
 pub fn figures() {

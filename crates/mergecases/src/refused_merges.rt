@@ -1,7 +1,6 @@
 // Merge: what it refuses, each beside the last that it accepts.
 use crate::merges::answered;
 use crate::merges::show;
-use crate::out;
 
 pub fn counts() {
     let two = [1u64, 0, 0, 0, 2, 0, 0, 0];
@@ -51,10 +50,10 @@ fn lent(label: &[u8], numbers: &mut [u32], new_sizes: &mut [u64], new_bits: &mut
         new_bits,
     );
     answered(label, answer);
-    out::words(b"; numbers", numbers);
-    out::long_words(b"; sizes", new_sizes);
-    out::long_words(b"; bits", new_bits);
-    out::text(b"\n");
+    lines::words(b"; numbers", numbers);
+    lines::long_words(b"; sizes", new_sizes);
+    lines::long_words(b"; bits", new_bits);
+    lines::text(b"\n");
 }
 
 pub fn areas() {
@@ -103,9 +102,9 @@ pub fn largest() {
         &mut new_bits,
     );
     answered(b"4,096", answer);
-    out::word_ends(b"; numbers", &numbers);
-    out::long_word_ends(b"; sizes", &new_sizes);
-    out::text(b"\n");
+    lines::word_ends(b"; numbers", &numbers);
+    lines::long_word_ends(b"; sizes", &new_sizes);
+    lines::text(b"\n");
 }
 
 // One subgroup more.
@@ -126,5 +125,5 @@ pub fn too_many() {
         &mut new_bits,
     );
     answered(b"4,097", answer);
-    out::text(b"\n");
+    lines::text(b"\n");
 }

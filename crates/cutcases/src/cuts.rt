@@ -1,5 +1,4 @@
 // Cut: the figures, and accepted inputs at the limits.
-use crate::out;
 use cut::Cut;
 use cut::CutAnswer;
 
@@ -12,27 +11,27 @@ pub fn show(
     minimum: f64,
     maximum: f64,
 ) {
-    out::text(b"cut ");
-    out::text(label);
+    lines::text(b"cut ");
+    lines::text(label);
     let answer = cut::pick_relevance_split_index(n, bytes, offsets, sizes, minimum, maximum);
     match answer {
-        CutAnswer::Refused(number) => out::refused(number),
+        CutAnswer::Refused(number) => lines::refused_line(number),
         CutAnswer::Answered(chosen) => show_cut(chosen),
     }
 }
 
 fn show_cut(chosen: Cut) {
     let Cut::At(point) = chosen else {
-        out::text(b": none\n");
+        lines::text(b": none\n");
         return;
     };
-    out::text(b": ");
-    out::number(point.index as u64);
-    out::text(b", ");
-    out::size(point.left_size);
-    out::text(b" and ");
-    out::size(point.right_size);
-    out::text(b"\n");
+    lines::text(b": ");
+    lines::number(point.index as u64);
+    lines::text(b", ");
+    lines::size(point.left_size);
+    lines::text(b" and ");
+    lines::size(point.right_size);
+    lines::text(b"\n");
 }
 
 pub fn figures() {

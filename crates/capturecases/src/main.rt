@@ -1,19 +1,9 @@
-// Runs the figures of Merge, captures of every kind, and each refusal of the two calls at its limit and one past it. Each line shows the
-// whole of the lent areas, which hold sevens on entry, so that what stays and what is cleared can be seen.
+// Runs captures of every kind and the refusals of Capture, each at its limit and one past it. The lent areas hold sevens on entry and are
+// shown whole, so that what stays and what is cleared can be seen.
 mod captures;
-mod merges;
-mod out;
 mod refused_captures;
-mod refused_merges;
 
 fn main() {
-    merges::figures();
-    merges::more();
-    refused_merges::counts();
-    refused_merges::values();
-    refused_merges::areas();
-    refused_merges::largest();
-    refused_merges::too_many();
     captures::reached();
     captures::along_chains();
     captures::round_circles();

@@ -1,14 +1,13 @@
 // Capture: what is reached. Record 0 holds numbers out of every range, so that reading it would show.
-use crate::out;
 use capture::CaptureAnswer;
 use index::ModuleIdx;
 
 pub fn answered(label: &[u8], answer: CaptureAnswer) {
-    out::text(b"capture ");
-    out::text(label);
+    lines::text(b"capture ");
+    lines::text(label);
     match answer {
-        CaptureAnswer::Refused(number) => out::refused(number),
-        CaptureAnswer::Done => out::text(b" done"),
+        CaptureAnswer::Refused(number) => lines::refused(number),
+        CaptureAnswer::Done => lines::text(b" done"),
     }
 }
 
@@ -39,16 +38,24 @@ pub fn show(
         &mut scratch,
     );
     answered(label, answer);
-    out::bytes(b"; marks", &marks);
-    out::words(b"; scratch", &scratch);
-    out::text(b"\n");
+    lines::bytes(b"; marks", &marks);
+    lines::words(b"; scratch", &scratch);
+    lines::text(b"\n");
 }
 
 pub fn reached() {
     let flags = [3u8; 4];
-    let out_of_range = 4294967295;
-    let none = [out_of_range];
-    show(b"alone", 4, 0, true, 2, &flags, &[0, 0, 0, 0], &none, &none);
+    show(
+        b"alone",
+        4,
+        0,
+        true,
+        2,
+        &flags,
+        &[0, 0, 0, 0],
+        &[4294967295],
+        &[4294967295],
+    );
     show(
         b"a chain of modules",
         4,
@@ -57,8 +64,8 @@ pub fn reached() {
         0,
         &flags,
         &[1, 2, 3, 0],
-        &[out_of_range, 1, 2, 3],
-        &[out_of_range, 0, 0, 0],
+        &[4294967295, 1, 2, 3],
+        &[4294967295, 0, 0, 0],
     );
     show(
         b"recursion off",
@@ -68,14 +75,13 @@ pub fn reached() {
         0,
         &flags,
         &[1, 2, 3, 0],
-        &[out_of_range, 1, 2, 3],
-        &[out_of_range, 0, 0, 0],
+        &[4294967295, 1, 2, 3],
+        &[4294967295, 0, 0, 0],
     );
 }
 
 pub fn along_chains() {
     let flags = [3u8; 4];
-    let out_of_range = 4294967295;
     show(
         b"two on one chain",
         4,
@@ -84,8 +90,8 @@ pub fn along_chains() {
         3,
         &flags,
         &[0, 0, 0, 1],
-        &[out_of_range, 0, 2],
-        &[out_of_range, 2, 0],
+        &[4294967295, 0, 2],
+        &[4294967295, 2, 0],
     );
     show(
         b"a shared tail",
@@ -95,14 +101,13 @@ pub fn along_chains() {
         0,
         &flags,
         &[1, 2, 0, 0],
-        &[out_of_range, 1, 2, 3],
-        &[out_of_range, 3, 3, 0],
+        &[4294967295, 1, 2, 3],
+        &[4294967295, 3, 3, 0],
     );
 }
 
 pub fn round_circles() {
     let flags = [3u8; 4];
-    let out_of_range = 4294967295;
     show(
         b"a circle of modules",
         4,
@@ -111,8 +116,8 @@ pub fn round_circles() {
         1,
         &flags,
         &[1, 2, 3, 0],
-        &[out_of_range, 1, 2, 0],
-        &[out_of_range, 0, 0, 0],
+        &[4294967295, 1, 2, 0],
+        &[4294967295, 0, 0, 0],
     );
     show(
         b"a module that names itself",
@@ -122,8 +127,8 @@ pub fn round_circles() {
         0,
         &flags,
         &[1, 0, 0, 0],
-        &[out_of_range, 0],
-        &[out_of_range, 0],
+        &[4294967295, 0],
+        &[4294967295, 0],
     );
     show(
         b"a repeated dependency",
@@ -133,17 +138,16 @@ pub fn round_circles() {
         0,
         &flags,
         &[1, 0, 0, 0],
-        &[out_of_range, 3, 3, 3],
-        &[out_of_range, 2, 3, 0],
+        &[4294967295, 3, 3, 3],
+        &[4294967295, 2, 3, 0],
     );
 }
 
 // Modules 0 to 2 name the next one; what stands at 1 stops the walk.
 pub fn stopped_between() {
-    let out_of_range = 4294967295;
     let first = [1u32, 2, 3, 0];
-    let dependency = [out_of_range, 1, 2, 3];
-    let next = [out_of_range, 0, 0, 0];
+    let dependency = [4294967295, 1, 2, 3];
+    let next = [4294967295, 0, 0, 0];
     show(
         b"an assigned module in between",
         4,
@@ -180,10 +184,9 @@ pub fn stopped_between() {
 }
 
 pub fn stopped_at_start() {
-    let out_of_range = 4294967295;
     let first = [1u32, 2, 3, 0];
-    let dependency = [out_of_range, 1, 2, 3];
-    let next = [out_of_range, 0, 0, 0];
+    let dependency = [4294967295, 1, 2, 3];
+    let next = [4294967295, 0, 0, 0];
     show(
         b"an assigned start",
         4,
@@ -214,7 +217,7 @@ pub fn stopped_at_start() {
         0,
         &[3, 7, 3, 3],
         &[1, 0, 3, 4],
-        &[out_of_range, 1, 3, 3, 2],
-        &[out_of_range, 2, 0, 0, 0],
+        &[4294967295, 1, 3, 3, 2],
+        &[4294967295, 2, 0, 0, 0],
     );
 }

@@ -1,4 +1,4 @@
-// Lines of output.
+// Lines of output for the programs that run cases.
 
 pub fn text(s: &[u8]) {
     io::write_all(1, s);
@@ -8,6 +8,7 @@ pub fn number(n: u64) {
     io::print_decimal(1, n);
 }
 
+// A number after a blank.
 fn spaced(n: u64) {
     text(b" ");
     number(n);
@@ -16,6 +17,11 @@ fn spaced(n: u64) {
 pub fn refused(n: u32) {
     text(b" refused ");
     number(n as u64);
+}
+
+pub fn refused_line(n: u32) {
+    refused(n);
+    text(b"\n");
 }
 
 fn wide_byte(x: u8) -> u64 {
@@ -92,4 +98,15 @@ pub fn words_other_than(value: u32, area: &[u32]) {
         i = i + 1;
     }
     number(others);
+}
+
+// A size that is a whole number, as every size here is.
+pub fn size(x: f64) {
+    if x > -1.0 {
+        if x < 18446744073709551616.0 {
+            number(std::num::truncating_f64_to_u64(x));
+            return;
+        }
+    }
+    text(b"?");
 }

@@ -1,9 +1,9 @@
--- `tablecases::out::long_words` is safe: the loop stays within the area.
+-- `lines::words` is safe: the loop stays within the area.
 use Prim.Native.Nat.{_≤_, _-_}
 use borrow.Author.Needs.{needs}
 use lib.ListN.{length}
-use Rattle.tablecases.proofs.out.long_words.Statement.{statement}
-use Rattle.tablecases.proofs.out.long_words.Tie as tie
+use Rattle.lines.proofs.words.Statement.{statement}
+use Rattle.lines.proofs.words.Tie as tie
 
 abbrev Inv-loop : tie.InvT-loop
 Inv-loop label area i₀ i = i ≤ length area
@@ -17,11 +17,14 @@ text-requires c κs = search needs
 loop-holds : tie.Need-loop-holds Inv-loop μ-loop
 loop-holds c = search needs
 
-mul-spaced : tie.Need-mul-spaced Inv-loop μ-loop
-mul-spaced c = search needs
+mul-wide-word : tie.Need-mul-wide-word Inv-loop μ-loop
+mul-wide-word c = search needs
 
-shared-slice-read-spaced : tie.Need-shared-slice-read-spaced Inv-loop μ-loop
-shared-slice-read-spaced c = search needs
+shared-slice-read-wide-word : tie.Need-shared-slice-read-wide-word Inv-loop μ-loop
+shared-slice-read-wide-word c = search needs
+
+wide-word-requires : tie.Need-wide-word-requires Inv-loop μ-loop
+wide-word-requires c κs = search needs
 
 spaced-requires : tie.Need-spaced-requires Inv-loop μ-loop
 spaced-requires c κs = search needs
@@ -38,16 +41,17 @@ loop-again c = search needs
 returns : tie.Need-returns Inv-loop μ-loop
 returns c = search needs
 
-pub long-words-spec : {M : Type 1} → statement M
-long-words-spec =
+pub words-spec : {M : Type 1} → statement M
+words-spec =
     tie.close
     (tie.spec
     Inv-loop
     μ-loop
     text-requires
     loop-holds
-    mul-spaced
-    shared-slice-read-spaced
+    mul-wide-word
+    shared-slice-read-wide-word
+    wide-word-requires
     spaced-requires
     add-i
     loop-less

@@ -1,10 +1,10 @@
--- `leafcases::out::size` is safe: the two tests are what the truncation asks.
+-- `lines::size` is safe: the two tests are what the truncation asks.
 use mathlib.Core.Path.{sym, subst}
 use lib.Dec.{T}
 use lib.Ieee.{ofBits, neg}
 use borrow.Author.Needs.{needs}
-use Rattle.leafcases.proofs.out.size.Statement.{statement}
-use Rattle.leafcases.proofs.out.size.Tie as tie
+use Rattle.lines.proofs.size.Statement.{statement}
+use Rattle.lines.proofs.size.Tie as tie
 
 truncating-f64-to-u64-requires : tie.Need-truncating-f64-to-u64-requires
 unfolding ofBits neg

@@ -1,9 +1,9 @@
--- `tablecases::out::words` is safe: the loop stays within the area.
+-- `lines::bytes` is safe: the loop stays within the area.
 use Prim.Native.Nat.{_≤_, _-_}
 use borrow.Author.Needs.{needs}
 use lib.ListN.{length}
-use Rattle.tablecases.proofs.out.words.Statement.{statement}
-use Rattle.tablecases.proofs.out.words.Tie as tie
+use Rattle.lines.proofs.bytes.Statement.{statement}
+use Rattle.lines.proofs.bytes.Tie as tie
 
 abbrev Inv-loop : tie.InvT-loop
 Inv-loop label area i₀ i = i ≤ length area
@@ -17,14 +17,11 @@ text-requires c κs = search needs
 loop-holds : tie.Need-loop-holds Inv-loop μ-loop
 loop-holds c = search needs
 
-mul-wide-word : tie.Need-mul-wide-word Inv-loop μ-loop
-mul-wide-word c = search needs
+shared-slice-read-wide-byte : tie.Need-shared-slice-read-wide-byte Inv-loop μ-loop
+shared-slice-read-wide-byte c = search needs
 
-shared-slice-read-wide-word : tie.Need-shared-slice-read-wide-word Inv-loop μ-loop
-shared-slice-read-wide-word c = search needs
-
-wide-word-requires : tie.Need-wide-word-requires Inv-loop μ-loop
-wide-word-requires c κs = search needs
+wide-byte-requires : tie.Need-wide-byte-requires Inv-loop μ-loop
+wide-byte-requires c κs = search needs
 
 spaced-requires : tie.Need-spaced-requires Inv-loop μ-loop
 spaced-requires c κs = search needs
@@ -41,17 +38,16 @@ loop-again c = search needs
 returns : tie.Need-returns Inv-loop μ-loop
 returns c = search needs
 
-pub words-spec : {M : Type 1} → statement M
-words-spec =
+pub bytes-spec : {M : Type 1} → statement M
+bytes-spec =
     tie.close
     (tie.spec
     Inv-loop
     μ-loop
     text-requires
     loop-holds
-    mul-wide-word
-    shared-slice-read-wide-word
-    wide-word-requires
+    shared-slice-read-wide-byte
+    wide-byte-requires
     spaced-requires
     add-i
     loop-less
