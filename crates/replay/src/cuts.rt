@@ -1,13 +1,13 @@
 // cut TAG N MINIMUM MAXIMUM, then N times: ID SIZE
-use crate::doubles;
-use crate::numbers;
-use crate::numbers::Field;
-use crate::out;
-use crate::pairs;
-use crate::parts;
-use crate::words;
 use cut::Cut;
 use cut::CutAnswer;
+use textform::doubles;
+use textform::numbers;
+use textform::numbers::Field;
+use textform::out;
+use textform::pairs;
+use textform::parts;
+use textform::words;
 ghost use Prim.Native.Nat.{_<_, _≤_};
 
 // The id and the size of module i. The value is the place past the id's bytes, which is the next offset.

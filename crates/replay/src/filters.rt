@@ -1,11 +1,11 @@
 // filter TAG MASK MIN_MODULE_SIZE MAX_MODULE_SIZE MIN_SHARE_COUNT TAGS SIZE SHARE_COUNT
-use crate::doubles;
-use crate::numbers;
-use crate::out;
-use crate::words;
 use filter::Filtered;
 use filter::MinShareCount;
 use filter::StaticFilter;
+use textform::doubles;
+use textform::numbers;
+use textform::out;
+use textform::words;
 
 pub struct ShareField {
     pub value: MinShareCount,

@@ -1,13 +1,13 @@
 // The cases, one a line. Empty lines and those that begin with # are passed over.
-use crate::captures;
 use crate::cuts;
 use crate::filters;
-use crate::merges;
-use crate::out;
 use crate::similar;
-use crate::words;
-use crate::words::Span;
-use crate::words::Stop;
+use tablecalls::captures;
+use tablecalls::merges;
+use textform::out;
+use textform::words;
+use textform::words::Span;
+use textform::words::Stop;
 
 pub fn answer_all(input: &[u8]) {
     let mut at = 0;

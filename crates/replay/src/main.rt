@@ -1,31 +1,23 @@
 // Runs recorded cases of the leaf calls: reads one case a line from standard input, and writes each answer in the form of the records.
 // Limits: an input of less than 1,048,576 bytes; in a case 256 modules or subgroups, 1,024 dependency records, 16,384 bytes of ids.
-mod captures;
 mod cuts;
-mod doubles;
 mod filters;
 mod lines;
-mod merges;
-mod numbers;
-mod out;
-mod pairs;
-mod parts;
 mod similar;
-mod words;
 
 fn read_input(input: &mut [u8; 1048576]) -> usize {
     io::read_full(0, input)
 }
 
 fn answer_input(input: &[u8; 1048576], n: usize) {
-    lines::answer_all(parts::bytes(input, n));
+    lines::answer_all(textform::parts::bytes(input, n));
 }
 
 fn main() {
     let mut input = [0u8; 1048576];
     let n = read_input(&mut input);
     if n == 1048576 {
-        out::text(b"! input\n");
+        textform::out::text(b"! input\n");
         return;
     }
     answer_input(&input, n);

@@ -1,9 +1,9 @@
 // sim TAG ID ID
-use crate::out;
-use crate::pairs;
-use crate::parts;
-use crate::words;
 use similarity::Similarity;
+use textform::out;
+use textform::pairs;
+use textform::parts;
+use textform::words;
 
 pub fn answered(tag: &[u8], line: &[u8]) -> bool {
     let mut left = [0u8; 16384];
