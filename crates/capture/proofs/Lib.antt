@@ -10,3 +10,4 @@ pub mod Walking
 pub mod Start
 pub mod Ladder
 pub mod Accepted
+pub mod WrittenOnce

@@ -11,7 +11,7 @@ use borrow.Author.Tests.{eqb-true, eqb-false, eq-eqb, ne-eqb}
 use lib.Dec.{eqb}
 use lib.ListN.{length, getD, set, length-set}
 use lib.Seq.{getD-set-same}
-use Rattle.flags.specs.Flags.{eligible}
+use Rattle.flags.specs.Flags.{eligibleAt}
 use Rattle.capture.specs.Capture.{Eligible}
 use Rattle.capture.specs.Walk.{Walk, WalkState, found, visited}
 use Rattle.capture.proofs.State.{in-marks, kept-mark, kept-place, now-marked, state-found}
@@ -19,15 +19,15 @@ use Rattle.capture.proofs.State.{in-marks, kept-mark, kept-place, now-m
 -- ---- the three ways of a visit
 
 module _ (flags : List ℕ) (w : Walk) (k : ℕ) where
-  pub visit-ineligible : eligible (getD flags k 0) ≡ false → visited flags w k ≡ w
+  pub visit-ineligible : eligibleAt flags k ≡ false → visited flags w k ≡ w
   unfolding visited
   visit-ineligible e = rw e
 
   pub visit-marked : (getD (w .marks) k 0 ≡ 0 → ⊥) → visited flags w k ≡ w
   unfolding visited
-  visit-marked h = rw (ne-eqb (getD (w .marks) k 0) 0 h, and-false (eligible (getD flags k 0)))
+  visit-marked h = rw (ne-eqb (getD (w .marks) k 0) 0 h, and-false (eligibleAt flags k))
 
-  pub visit-new : eligible (getD flags k 0) ≡ true → getD (w .marks) k 0 ≡ 0 → visited flags w k ≡ found w k
+  pub visit-new : eligibleAt flags k ≡ true → getD (w .marks) k 0 ≡ 0 → visited flags w k ≡ found w k
   unfolding visited
   visit-new e h = rw (e, eq-eqb (getD (w .marks) k 0) 0 h)
 
@@ -94,9 +94,9 @@ module _ (flags : List ℕ) (n : ℕ) (w : Walk) (s : WalkState flags n w) (k : 
 
   pub visit-one : Visited flags n (k ∷ []) w (visited flags w k)
   unfolding visited
-  visit-one = go (eligible (getD flags k 0)) (eqb (getD (w .marks) k 0) 0) refl refl
+  visit-one = go (eligibleAt flags k) (eqb (getD (w .marks) k 0) 0) refl refl
     where
-      go : (a b : Bool) → eligible (getD flags k 0) ≡ a → eqb (getD (w .marks) k 0) 0 ≡ b → Visited flags n (k ∷ []) w (cond (a && b) (found w k) w)
+      go : (a b : Bool) → eligibleAt flags k ≡ a → eqb (getD (w .marks) k 0) 0 ≡ b → Visited flags n (k ∷ []) w (cond (a && b) (found w k) w)
       go false b p q = passed (λ e. absurd (false≢true (sym p ∙ e)))
       go true false p q = passed (λ e. ⊎-elim (λ z. z) (λ z. absurd (eqb-false (getD (w .marks) k 0) 0 q z)) (s .byte k h))
       go true true p q = new p (eqb-true (getD (w .marks) k 0) 0 q)

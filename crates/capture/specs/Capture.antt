@@ -3,8 +3,7 @@ use Prim.Native.Nat.{ℕ}
 use mathlib.Core.Bool.{Bool, true}
 use mathlib.Core.List.{List, List·Memᴰ}
 use mathlib.Core.Path.{_≡_}
-use lib.ListN.{getD}
-use Rattle.flags.specs.Flags.{eligible}
+use Rattle.flags.specs.Flags.{eligibleAt}
 use Rattle.records.specs.Chain.{dependencies}
 use Rattle.capture.specs.Reached.{Reached}
 
@@ -22,7 +21,7 @@ pub record Given : Type 0 where
 
 -- module m is eligible
 abbrev pub Eligible : List ℕ → ℕ → Type 0
-Eligible flags m = eligible (getD flags m 0) ≡ true
+Eligible flags m = eligibleAt flags m ≡ true
 
 -- module m names module k along its chain
 abbrev pub Names : List ℕ → List ℕ → List ℕ → ℕ → ℕ → ℕ → Type 0

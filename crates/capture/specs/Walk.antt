@@ -7,7 +7,7 @@ use mathlib.Core.Path.{_≡_}
 use lib.Dec.{eqb}
 use lib.ListN.{length, getD, set}
 use Rattle.lists.specs.Below.{countBelow}
-use Rattle.flags.specs.Flags.{eligible}
+use Rattle.flags.specs.Flags.{eligibleAt}
 use Rattle.records.specs.Bad.{RecordTables, badRecords}
 use Rattle.capture.specs.Reached.{Reached, Marks}
 use Rattle.capture.specs.Capture.{Eligible, Names}
@@ -65,7 +65,7 @@ found w k = record { marks = set (w .marks) k 1; queue = set (w .queue) (w .tail
 
 -- a module that a chain names is marked and put on the list if it is eligible and not marked yet
 unfoldable pub visited : List ℕ → Walk → ℕ → Walk
-visited flags w k = cond (eligible (getD flags k 0) && eqb (getD (w .marks) k 0) 0) (found w k) w
+visited flags w k = cond (eligibleAt flags k && eqb (getD (w .marks) k 0) 0) (found w k) w
 
 -- module k can be visited
 pub record VisitReady (flags : List ℕ) (w : Walk) (k : ℕ) : Type 0 where

@@ -67,11 +67,10 @@ fn capture_from(
     ensures { λ _. ⌜ Marks (Captured (record { n = length (now (flags .entry)); d = length (now (next .entry)) - 1; recursive = recursive; from = from .0; flags = now (flags .entry); first = now (first .entry); dependency = now (dependency .entry); next = now (next .entry) })) (length (now (flags .entry))) (now (marks .exit)) ⌝ }
 {
     clear::clear_bytes(marks);
-    let at = from.0 as usize;
-    if !flags::is_eligible(flags[at]) {
+    if !flags::is_eligible_at(flags, from) {
         return;
     }
-    marks[at] = 1;
+    marks[from.0 as usize] = 1;
     if !recursive {
         return;
     }

@@ -8,14 +8,20 @@ ghost use Rattle.records.specs.Chain.{dependencies};
 ghost use Rattle.capture.specs.Walk.{WalkReady, Walked, FollowReady, VisitReady, visited};
 
 // A module that a chain names: it is marked and put on the list if it is eligible and not marked yet.
-fn visit(flags: &[u8], marks: &mut [u8], queue: &mut [u32], tail: usize, named: ModuleIdx) -> usize
+pub fn visit(
+    flags: &[u8],
+    marks: &mut [u8],
+    queue: &mut [u32],
+    tail: usize,
+    named: ModuleIdx,
+) -> usize
     requires { ⌜ VisitReady (now flags) (record { marks = now marks; queue = now queue; tail = tail }) (named .0) ⌝ }
     ensures { λ r. ⌜ visited (now (flags .entry)) (record { marks = now (marks .entry); queue = now (queue .entry); tail = tail }) (named .0) ≡ record { marks = now (marks .exit); queue = now (queue .exit); tail = r } ⌝ }
 {
-    let at = named.0 as usize;
-    if !flags::is_eligible(flags[at]) {
+    if !flags::is_eligible_at(flags, named) {
         return tail;
     }
+    let at = named.0 as usize;
     if marks[at] != 0 {
         return tail;
     }

@@ -11,6 +11,7 @@ use Rattle.lists.specs.Sum.{sum}
 use Rattle.lists.proofs.Map.{getD-map-below}
 use Rattle.lists.proofs.Sum.{sum-take-suc, sum-take-le}
 use Rattle.ids.specs.Parts.{idAt, InTable}
+use Rattle.ids.specs.Offsets.{idLimit}
 use Rattle.ids.proofs.IdParts.{in-table, id-length}
 use Rattle.cut.specs.Order.{sizesIn, idsIn, Sized, Named}
 
@@ -43,7 +44,7 @@ module _ (bytes offsets order : List ℕ) (named : Named bytes offsets order) (i
   id-in = getD-map-below (idAt bytes offsets) order i [] 0 h
 
   pub id-in-table : InTable bytes offsets (getD order i 0)
-  id-in-table = in-table bytes offsets (getD order i 0) (named .good) (named .has-id i h)
+  id-in-table = in-table idLimit bytes offsets (getD order i 0) (named .good) (named .has-id i h)
 
   pub id-short : length (idAt bytes offsets (getD order i 0)) ≤ 1024
-  id-short = id-length bytes offsets (getD order i 0) (named .good) (named .has-id i h)
+  id-short = id-length idLimit bytes offsets (getD order i 0) (named .good) (named .has-id i h)

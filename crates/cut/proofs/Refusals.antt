@@ -12,7 +12,7 @@ use Rattle.refusal.specs.Counts.{moduleLimit}
 use Rattle.refusal.proofs.Lowest.{lowest}
 use Rattle.whole.specs.Total.{totalExceeds}
 use Rattle.ids.specs.Parts.{idsOf}
-use Rattle.ids.specs.Offsets.{badOffsets}
+use Rattle.ids.specs.Offsets.{idLimit, badOffsets}
 use Rattle.cut.specs.Cut.{Chosen, cutOf}
 use Rattle.cut.specs.Call.{cutTests, cutCall}
 
@@ -21,7 +21,7 @@ pub record Passed (n : ℕ) (bytes offsets sizes : List ℕ) : Type 0 where
   pub few : n ≤ moduleLimit
   pub all-offsets : length offsets ≡ n + 1
   pub all-sizes : length sizes ≡ n
-  pub good : badOffsets (length bytes) offsets ≡ false
+  pub good : badOffsets idLimit (length bytes) offsets ≡ false
 
 -- nor does 6 or 8
 pub record Accepted (n : ℕ) (bytes offsets sizes : List ℕ) (minimum maximum : Float) : Type 0 where
@@ -52,7 +52,7 @@ module _ (n : ℕ) (bytes offsets sizes : List ℕ) (minimum maximum : Float) wh
   unfolding cutCall
   sizes-missing few h = rw (le-ltb _ _ few, ne-eqb _ _ h, or-true)
 
-  pub ids-bad : n ≤ moduleLimit → length offsets ≡ n + 1 → length sizes ≡ n → badOffsets (length bytes) offsets ≡ true → call ≡ refused 3
+  pub ids-bad : n ≤ moduleLimit → length offsets ≡ n + 1 → length sizes ≡ n → badOffsets idLimit (length bytes) offsets ≡ true → call ≡ refused 3
   unfolding cutCall
   ids-bad few o s h = rw (le-ltb _ _ few, eq-eqb _ _ o, eq-eqb _ _ s, h)
 

@@ -9,7 +9,7 @@ use Rattle.refusal.specs.Outcome.{Outcome, refused, accepted, Test, test, outco
 use Rattle.refusal.specs.Counts.{moduleLimit, badLength}
 use Rattle.whole.specs.Total.{totalExceeds}
 use Rattle.ids.specs.Parts.{idsOf}
-use Rattle.ids.specs.Offsets.{badOffsets}
+use Rattle.ids.specs.Offsets.{idLimit, badOffsets}
 use Rattle.cut.specs.Cut.{Chosen, none, cut, cutOf}
 use Rattle.cut.specs.declared.Cut.{Cut}
 use Rattle.cut.specs.declared.Cut.the-variants.{None, At}
@@ -22,7 +22,7 @@ unfolding badOffsets totalExceeds isNan
 cutTests n bytes offsets sizes minimum maximum =
     test 1 (ltb moduleLimit n)
     ∷ test 2 (badLength offsets (n + 1) || badLength sizes n)
-    ∷ test 3 (badOffsets (length bytes) offsets)
+    ∷ test 3 (badOffsets idLimit (length bytes) offsets)
     ∷ test 6 (totalExceeds sizes)
     ∷ test 8 (isNan minimum || isNan maximum)
     ∷ []

@@ -6,7 +6,7 @@ use mathlib.Core.Path.{_≡_}
 use lib.ListN.{length, getD}
 use Rattle.lists.specs.Sum.{sum}
 use Rattle.ids.specs.Parts.{idAt}
-use Rattle.ids.specs.Offsets.{badOffsets}
+use Rattle.ids.specs.Offsets.{idLimit, badOffsets}
 
 -- the sizes of the modules, in their order
 abbrev pub sizesIn : List ℕ → List ℕ → List ℕ
@@ -23,7 +23,7 @@ pub record Sized (sizes order : List ℕ) : Type 0 where
 
 -- each number of the order has an id in a table to which refusal 3 does not apply
 pub record Named (bytes offsets order : List ℕ) : Type 0 where
-  pub good : badOffsets (length bytes) offsets ≡ false
+  pub good : badOffsets idLimit (length bytes) offsets ≡ false
   pub has-id : (i : ℕ) → i < length order → getD order i 0 + 1 < length offsets
 
 -- what the cut of modules in an order asks of its tables

@@ -42,7 +42,7 @@ pub fn pick_relevance_split_index(
     if sizes.len() != n {
         return CutAnswer::Refused(refusal::LENGTH);
     }
-    if ids::offsets::bad_offsets(bytes.len(), offsets) {
+    if ids::offsets::bad_offsets(ids::offsets::ID_LIMIT, bytes.len(), offsets) {
         return CutAnswer::Refused(refusal::ID);
     }
     if whole::total_exceeds(sizes) {

@@ -3,6 +3,7 @@ use crate::Cut;
 use crate::CutPoint;
 use crate::candidate::Candidate;
 use ids::parts::id_at;
+use index::ModuleIdx;
 use similarity::similarity_within;
 ghost use mathlib.Core.Path.{_≡_};
 ghost use Prim.Native.Nat.{_<_, _≤_};
@@ -71,7 +72,7 @@ fn size_at(sizes: &[u64], order: &[u32], i: usize) -> f64
 }
 
 // The sizes of all the modules, added one after the other.
-fn total_size(sizes: &[u64], order: &[u32]) -> f64
+pub fn total_size(sizes: &[u64], order: &[u32]) -> f64
     requires { ⌜ Sized (now sizes) (now order) ⌝ }
     ensures { λ r. ⌜ r ≡ sumF64 (sizesIn (now (sizes .entry)) (now (order .entry))) ⌝ }
 {
@@ -104,10 +105,10 @@ fn look_at(
     if !(bounds.minimum <= sides.right) {
         return best;
     }
-    let before = order[i - 1] as usize;
-    let after = order[i] as usize;
-    let lhs = id_at(bytes, offsets, before);
-    let rhs = id_at(bytes, offsets, after);
+    let before = order[i - 1];
+    let after = order[i];
+    let lhs = id_at(bytes, offsets, ModuleIdx(before));
+    let rhs = id_at(bytes, offsets, ModuleIdx(after));
     let candidate = Candidate {
         index: i,
         similarity: similarity_within(lhs, rhs),

@@ -22,6 +22,11 @@ unfoldable pub eligible : ℕ → Bool
 unfolding listed assigned
 eligible flags = listed flags && not (assigned flags)
 
+-- module m is eligible, read off the table of flag bytes
+unfoldable pub eligibleAt : List ℕ → ℕ → Bool
+unfolding eligible
+eligibleAt flags m = eligible (getD flags m 0)
+
 -- refusal 9: "a flag byte above 7", among n modules
 unfoldable pub badFlags : List ℕ → ℕ → Bool
 unfolding anyBelow

@@ -1,8 +1,9 @@
 // The flag byte of a module: 1 normal, 2 included, 4 already assigned, summed.
+use index::ModuleIdx;
 ghost use mathlib.Core.Path.{_≡_};
-ghost use Prim.Native.Nat.{_≤_};
+ghost use Prim.Native.Nat.{_≤_, _<_};
 ghost use lib.ListN.{length};
-ghost use Rattle.flags.specs.Flags.{listed, eligible, badFlags};
+ghost use Rattle.flags.specs.Flags.{listed, eligibleAt, badFlags};
 
 // Normal and included.
 pub fn is_listed(flags: u8) -> bool
@@ -11,11 +12,12 @@ pub fn is_listed(flags: u8) -> bool
     flags & 3 == 3
 }
 
-// Normal, included and not assigned.
-pub fn is_eligible(flags: u8) -> bool
-    ensures { λ r. ⌜ r ≡ eligible flags ⌝ }
+// Module m is normal, included and not assigned.
+pub fn is_eligible_at(flags: &[u8], m: ModuleIdx) -> bool
+    requires { ⌜ m .0 < length (now flags) ⌝ }
+    ensures { λ r. ⌜ r ≡ eligibleAt (now (flags .entry)) (m .0) ⌝ }
 {
-    flags & 7 == 3
+    flags[m.0 as usize] & 7 == 3
 }
 
 // Refusal 9: a flag byte above 7 among n modules.

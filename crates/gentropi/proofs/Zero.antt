@@ -15,6 +15,9 @@ use Rattle.filter.specs.declared.StaticFilter.{StaticFilter}
 use Rattle.capture.specs.Capture as capturing
 use Rattle.capture.specs.Call as capture
 use Rattle.merge.specs.Call as merge
+use Rattle.grouping.specs.Given as grouping
+use Rattle.grouping.specs.Conditions.{inputTests, stateTests}
+use Rattle.grouping.specs.Call.{chunksTests}
 
 -- no condition of a call's order has the number 0
 unfoldable pub noneZero : List Test → Bool
@@ -55,3 +58,7 @@ capture-none-zero g a = refl
 pub merge-none-zero : (g : merge.Given) (a : merge.Areas) → noneZero (merge.mergeTests g a) ≡ true
 unfolding merge.mergeTests noneZero
 merge-none-zero g a = refl
+
+pub chunks-none-zero : (need : grouping.Given → ℕ) (b : grouping.Given) (a : grouping.Areas) → noneZero (chunksTests need b a) ≡ true
+unfolding chunksTests inputTests stateTests noneZero
+chunks-none-zero need b a = refl

@@ -13,6 +13,10 @@ use Rattle.cut.specs.Cut.{Chosen, none, cut}
 use Rattle.capture.specs.Capture as capturing
 use Rattle.capture.specs.Call as capture
 use Rattle.merge.specs.Call as merge
+use Rattle.grouping.specs.Given as grouping
+use Rattle.grouping.specs.Conditions.{scratchNeed}
+use Rattle.grouping.specs.Call.{chunksOutcome}
+use Rattle.grouping.specs.Written as chunks
 
 -- the places of a cut: whether there is one, its index and the sizes of its sides
 pub record CutPlaces : Type 0 where
@@ -61,3 +65,10 @@ pub record MergeExport (g : merge.Given) (answer : ℕ) (before after : merge.Ar
   pub number : answer ≡ numberOf (merge.mergeOutcome g before)
   pub refusal : (n : ℕ) → merge.mergeOutcome g before ≡ refused n → after ≡ before
   pub answered : merge.mergeOutcome g before ≡ accepted tt → after ≡ merge.written g before
+
+-- an exported Chunks: its answer, the place of the count, and the lent areas after it
+pub record ChunksExport (b : grouping.Given) (answer : ℕ) (count count′ : ℕ) (before after : grouping.Areas) : Type 0 where
+  pub number : answer ≡ numberOf (chunksOutcome scratchNeed b before)
+  pub place : count′ ≡ valueOr (chunksOutcome scratchNeed b before) count
+  pub refusal : (n : ℕ) → chunksOutcome scratchNeed b before ≡ refused n → after ≡ before
+  pub answered : (made : ℕ) → chunksOutcome scratchNeed b before ≡ accepted made → after ≡ chunks.written 0 b before

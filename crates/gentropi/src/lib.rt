@@ -4,3 +4,4 @@ pub mod cuts;
 pub mod filters;
 pub mod merges;
 pub mod similar;
+pub mod splits;

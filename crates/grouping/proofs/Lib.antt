@@ -1,26 +1,2 @@
--- The laws of the definitions of specs/, and the renumbering rule.
-pub mod Accepted
-pub mod Places
-pub mod TreeEqual
-pub mod BitKinds
-pub mod MergeBits
-pub mod ChunkBits
-pub mod AreasRead
-pub mod Translated
-pub mod Renumbered
-pub mod Pieces
-pub mod SetPlaces
-pub mod MergeNumbers
-pub mod SubgroupPlaces
-pub mod WorkPlaces
-pub mod EnoughTurns
-pub mod ChunkPlaces
-pub mod MarkedPlaces
-pub mod RoundsReach
-pub mod AtPlaces
-pub mod SetsAreCaptures
-pub mod MergeEnds
-pub mod KindsEnough
+-- The claim over the worked examples.
 pub mod ExamplesHold
-pub mod AlikeBuilds
-pub mod LowestNumber

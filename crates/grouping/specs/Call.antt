@@ -1,4 +1,4 @@
--- The call Chunks (`split`), refusals included.
+-- The call Chunks (`split`), refusals included, for a run that needs so much scratch.
 use Prim.Native.Nat.{ℕ}
 use mathlib.Core.List.{List, _++_}
 use mathlib.Core.Path.{_≡_}
@@ -10,18 +10,18 @@ use Rattle.grouping.specs.Written.{written}
 use Rattle.grouping.specs.Conditions.{inputTests, stateTests}
 
 -- the conditions that Chunks tests: all, in their order
-unfoldable pub chunksTests : Given → Areas → List Test
+unfoldable pub chunksTests : (Given → ℕ) → Given → Areas → List Test
 unfolding inputTests stateTests
-chunksTests b a = inputTests b ++ stateTests b a
+chunksTests need b a = inputTests b ++ stateTests (b .on-entry) (b .shared .n) (need b) a
 
 -- "The answer is the count of new chunks."
-unfoldable pub chunksOutcome : Given → Areas → Outcome ℕ
+unfoldable pub chunksOutcome : (Given → ℕ) → Given → Areas → Outcome ℕ
 unfolding chunksTests outcome chunkList
-chunksOutcome b a = outcome (chunksTests b a) (length (chunkList b))
+chunksOutcome need b a = outcome (chunksTests need b a) (length (chunkList b))
 
 -- The call: what is handed in, the answer, and the content of the lent areas before and after it. From it alone follow the answer and the
--- final content of everything lent.
-pub record ChunksCall (b : Given) (answer : Outcome ℕ) (before after : Areas) : Type 0 where
-  pub number : answer ≡ chunksOutcome b before
+-- final content of everything lent. "the first new chunk has the first record of its area"
+pub record ChunksCall (need : Given → ℕ) (b : Given) (answer : Outcome ℕ) (before after : Areas) : Type 0 where
+  pub number : answer ≡ chunksOutcome need b before
   pub refusal : (n : ℕ) → answer ≡ refused n → after ≡ before
-  pub answered : (count : ℕ) → answer ≡ accepted count → after ≡ written b before
+  pub answered : (count : ℕ) → answer ≡ accepted count → after ≡ written 0 b before

@@ -11,11 +11,13 @@ use Rattle.lists.specs.Sum.{sum}
 use Rattle.bitset.specs.Entries.{empty, unionOf}
 use Rattle.bitset.specs.declared.entries.BitSet.{BitSet}
 use Rattle.grouping.specs.Given.{Given}
-use Rattle.grouping.specs.Rules.{Rules, allRules}
+use Rattle.options.specs.declared.Settings.{Settings}
+use Rattle.grouping.specs.Settings.{allSettings}
 use Rattle.grouping.specs.Tree.{Tree, treeOf, memberAt}
 use Rattle.grouping.specs.Item.{Item, withPlaces}
+use Rattle.grouping.specs.Sizes.{itemSize}
 use Rattle.grouping.specs.WorkList.{workList}
-use Rattle.grouping.specs.Fate.{Fate, emptied, dropped, parted, emitted, fateOf, itemSize}
+use Rattle.grouping.specs.Fate.{Fate, emptied, dropped, parted, emitted, fateOf}
 
 -- one turn: the item that was taken off the list, and its fate
 pub record Turn : Type 0 where
@@ -40,7 +42,7 @@ unfolding fateOf keep elem
 turns zero tree items = []
 turns (suc most) tree [] = []
 turns (suc most) tree (i ∷ items) =
-    let fate = fateOf (i .rules) tree (i .places) in
+    let fate = fateOf (i .settings) tree (i .places) in
     record { item = i; fate = fate } ∷ turns most tree (rest fate i items)
 
 -- enough turns: an item of p places takes at most 2p − 1, and one if it is empty
@@ -56,16 +58,24 @@ pub record Chunk : Type 0 where
   pub bits : BitSet
   pub places : List ℕ
 
+-- the union of the entry bits at places
+unfoldable pub unionAt : Tree → List ℕ → BitSet
+unfolding unionOf
+unionAt tree places = foldr (λ p bits. unionOf (memberAt tree p .bits) bits) empty places
+
 -- Step 5: "Entry bits are the union over its modules; for an entries-aware item, the subgroup's bits from step 2, also after modules left
 -- or a cut."
-abbrev pub chunkBits : Tree → Item → Option BitSet → BitSet
-chunkBits tree i none = foldr (λ p bits. unionOf (memberAt tree p .bits) bits) empty (i .places)
-chunkBits tree i (some bits) = bits
+abbrev pub bitsOr : Option BitSet → BitSet → BitSet
+bitsOr none union = union
+bitsOr (some bits) union = bits
+
+abbrev pub chunkBits : Tree → Item → BitSet
+chunkBits tree i = bitsOr (i .bits) (unionAt tree (i .places))
 
 unfoldable pub chunkFrom : Tree → Item → Chunk
-unfolding itemSize unionOf
+unfolding itemSize unionAt
 chunkFrom tree i =
-    record { group = i .group; name = i .name; size = itemSize tree (i .places); bits = chunkBits tree i (i .bits); places = i .places }
+    record { group = i .group; name = i .name; size = itemSize (i .settings) tree (i .places); bits = chunkBits tree i; places = i .places }
 
 -- the chunk of a turn that emits one
 abbrev pub emittedBy : Tree → Fate → Item → List Chunk → List Chunk
@@ -80,19 +90,19 @@ unfolding chunkFrom
 chunksOfTurns tree [] = []
 chunksOfTurns tree (t ∷ ts) = emittedBy tree (t .fate) (t .item) (chunksOfTurns tree ts)
 
--- the turns of a tree under the rules of its groups
-unfoldable pub allTurns : ℕ → List Rules → Tree → List Turn
+-- the turns of a tree under the settings of its groups
+unfoldable pub allTurns : ℕ → List Settings → Tree → List Turn
 unfolding workList turns enough
-allTurns k rules tree =
-    let items = workList k rules tree in
+allTurns k settings tree =
+    let items = workList k settings tree in
     turns (enough items) tree items
 
 -- the chunk list of a tree
-unfoldable pub chunksOf : ℕ → List Rules → Tree → List Chunk
+unfoldable pub chunksOf : ℕ → List Settings → Tree → List Chunk
 unfolding allTurns chunksOfTurns
-chunksOf k rules tree = chunksOfTurns tree (allTurns k rules tree)
+chunksOf k settings tree = chunksOfTurns tree (allTurns k settings tree)
 
 -- the chunk list of a build
 unfoldable pub chunkList : Given → List Chunk
-unfolding allRules treeOf chunksOf
-chunkList b = chunksOf (b .k) (allRules b) (treeOf b)
+unfolding allSettings treeOf chunksOf
+chunkList b = chunksOf (b .shared .k) (allSettings b) (treeOf b)

@@ -15,27 +15,31 @@ use Rattle.refusal.specs.Counts.{moduleLimit, groupLimit, entryLimit, nameLimit
 use Rattle.whole.specs.Total.{totalExceeds}
 use Rattle.bitset.specs.Entries.{anyBeyond}
 use Rattle.ids.specs.Parts.{idAt}
-use Rattle.ids.specs.Offsets.{badOffsets}
+use Rattle.ids.specs.Offsets.{idLimit, badOffsets}
 use Rattle.flags.specs.Flags.{listed, badFlags}
 use Rattle.records.specs.Bad.{badRecords}
 use Rattle.options.specs.Nan.{nanOptions, nanGroup}
 use Rattle.options.specs.Tables.{GroupTables, groupAt}
-use Rattle.grouping.specs.Given.{Given, Areas, answerOf}
+use Rattle.grouping.specs.Given.{Given, ModuleAreas, ChunkRecords, Areas, isListed, answerOf}
 
 -- 1: "a count above its limit"
 unfoldable pub countAbove : Given → Bool
 countAbove b =
-    ltb moduleLimit (b .n) || (ltb groupLimit (b .g) || (ltb entryLimit (b .e) || (ltb nameLimit (b .k) || ltb recordLimit (b .d))))
+    let s = b .shared in
+    ltb moduleLimit (s .n) || (ltb groupLimit (b .variant .g) || (ltb entryLimit (s .e) || (ltb nameLimit (s .k) || ltb recordLimit (s .d))))
 
 -- 2: "a table's length not the one its counts imply"
 unfoldable pub badModuleTable : Given → Bool
 badModuleTable b =
-    badLength (b .flags) (b .n)
-    || (badLength (b .sizes) (b .n) || (badLength (b .orders) (b .n) || (badLength (b .shares) (b .n) || (badLength (b .tags) (b .n) || badLength (b .bits) (4 * b .n)))))
+    let s = b .shared in
+    badLength (b .variant .flags) (s .n)
+    || (badLength (s .sizes) (s .n) || (badLength (s .orders) (s .n) || (badLength (s .shares) (s .n)
+    || (badLength (s .tags) (s .n) || badLength (s .bits) (4 * s .n)))))
 
 unfoldable pub badRecordTable : Given → Bool
 badRecordTable b =
-    badLength (b .offsets) (b .n + 1) || (badLength (b .first) (b .n) || (badLength (b .dependency) (b .d + 1) || badLength (b .next) (b .d + 1)))
+    let s = b .shared in
+    badLength (s .offsets) (s .n + 1) || (badLength (s .first) (s .n) || (badLength (s .dependency) (s .d + 1) || badLength (s .next) (s .d + 1)))
 
 unfoldable pub badGroupTable : GroupTables → ℕ → Bool
 badGroupTable t g =
@@ -45,73 +49,88 @@ badGroupTable t g =
 
 unfoldable pub badTable : Given → Bool
 unfolding badModuleTable badRecordTable badGroupTable
-badTable b = badModuleTable b || (badRecordTable b || (badGroupTable (b .groups) (b .g) || badLength (b .answers) (b .g * b .n)))
+badTable b =
+    let v = b .variant in
+    badModuleTable b || (badRecordTable b || (badGroupTable (v .groups) (v .g) || badLength (v .answers) (v .g * b .shared .n)))
 
 -- 3: "an id offset falls or passes the end, or an id exceeds 1,024 bytes"
 unfoldable pub badId : Given → Bool
 unfolding badOffsets
-badId b = badOffsets (length (b .bytes)) (b .offsets)
+badId b = badOffsets idLimit (length (b .shared .bytes)) (b .shared .offsets)
 
 -- two different modules below n that are both normal and included, of which a test holds
 unfoldable pub twoListed : Given → (ℕ → ℕ → Bool) → Bool
 unfolding anyBelow listed
-twoListed b p = anyBelow (λ m. anyBelow (λ l. listed (getD (b .flags) l 0) && (listed (getD (b .flags) m 0) && p l m)) m) (b .n)
+twoListed b p = anyBelow (λ m. anyBelow (λ l. isListed b l && (isListed b m && p l m)) m) (b .shared .n)
 
 -- 4: "two normal included modules share a stable id"
 unfoldable pub sharedId : Given → Bool
 unfolding twoListed sameNumbers idAt
-sharedId b = twoListed b (λ l m. sameNumbers (idAt (b .bytes) (b .offsets) l) (idAt (b .bytes) (b .offsets) m))
+sharedId b =
+    let id = idAt (b .shared .bytes) (b .shared .offsets) in
+    twoListed b (λ l m. sameNumbers (id l) (id m))
 
 -- 5: "two normal included modules share an execution order"
 unfoldable pub sharedOrder : Given → Bool
 unfolding twoListed
-sharedOrder b = twoListed b (λ l m. eqb (getD (b .orders) l 0) (getD (b .orders) m 0))
+sharedOrder b = twoListed b (λ l m. eqb (getD (b .shared .orders) l 0) (getD (b .shared .orders) m 0))
 
 -- 6: "sizes (of normal included modules …) add to more than 2^53"
 unfoldable pub badTotal : Given → Bool
 unfolding totalExceeds keep range listed
-badTotal b = totalExceeds (map (λ m. getD (b .sizes) m 0) (keep (λ m. listed (getD (b .flags) m 0)) (range 0 (b .n))))
+badTotal b = totalExceeds (map (λ m. getD (b .shared .sizes) m 0) (keep (isListed b) (range 0 (b .shared .n))))
 
 -- 7: dependency records
 unfoldable pub badDependency : Given → Bool
 unfolding badRecords
-badDependency b = badRecords (b .first) (b .dependency) (b .next) (b .n) (b .d)
+badDependency b = badRecords (b .shared .first) (b .shared .dependency) (b .shared .next) (b .shared .n) (b .shared .d)
 
 -- 8: "a given limit or threshold is NaN", used or not
 unfoldable pub badLimit : Given → Bool
 unfolding nanOptions nanGroup groupAt anyBelow
-badLimit b = nanOptions (b .options) || anyBelow (λ g. nanGroup (groupAt (b .groups) g)) (b .g)
+badLimit b = nanOptions (b .shared .options) || anyBelow (λ g. nanGroup (groupAt (b .variant .groups) g)) (b .variant .g)
 
 -- 9: "a flag byte above 7, or an entry bit at or above E"
 unfoldable pub badBit : Given → Bool
 unfolding badFlags anyBeyond
-badBit b = badFlags (b .flags) (b .n) || anyBeyond (b .e) (b .bits) (b .n)
+badBit b = badFlags (b .variant .flags) (b .shared .n) || anyBeyond (b .shared .e) (b .shared .bits) (b .shared .n)
 
 -- 10: "an answer of K+2 or more"
 unfoldable pub badAnswer : Given → Bool
 unfolding anyBelow
-badAnswer b = anyBelow (λ i. leb (b .k + 2) (getD (b .answers) i 0)) (b .g * b .n)
+badAnswer b = anyBelow (λ i. leb (b .shared .k + 2) (getD (b .variant .answers) i 0)) (b .variant .g * b .shared .n)
 
 -- 11: "chunk count on entry above 65,535"
-unfoldable pub badEntryCount : Given → Bool
-badEntryCount b = ltb 65535 (b .on-entry)
+unfoldable pub badEntryCount : ℕ → Bool
+badEntryCount on-entry = ltb 65535 on-entry
 
--- 12: "an output area shorter than N … entries"
-unfoldable pub badArea : Given → Areas → Bool
-badArea b a =
-    ltb (length (a .chunk-of)) (b .n)
-    || (ltb (length (a .next-of)) (b .n) || (ltb (length (a .first-of)) (b .n) || (ltb (length (a .group-of)) (b .n)
-    || (ltb (length (a .name-of)) (b .n) || (ltb (length (a .size-of)) (b .n) || ltb (length (a .bits-of)) (4 * b .n))))))
+-- 12: "an output area shorter than N … entries": the areas per module, and the chunk records
+unfoldable pub shortModuleArea : ℕ → ModuleAreas → Bool
+shortModuleArea n a = ltb (length (a .chunk-of)) n || ltb (length (a .next-of)) n
+
+unfoldable pub shortRecordArea : ℕ → ChunkRecords → Bool
+shortRecordArea n a =
+    ltb (length (a .first-of)) n
+    || (ltb (length (a .group-of)) n || (ltb (length (a .name-of)) n || (ltb (length (a .size-of)) n || ltb (length (a .bits-of)) (4 * n))))
+
+unfoldable pub badArea : ℕ → Areas → Bool
+unfolding shortModuleArea shortRecordArea
+badArea n a = shortModuleArea n (a .modules) || shortRecordArea n (a .records)
 
 -- "P being the distinct (group, name) pairs among answers of 2 or more"
 unfoldable pub pairs : Given → ℕ
 unfolding sum countBelow anyBelow range
-pairs b = sum (map (λ g. countBelow (λ name. anyBelow (λ m. eqb (answerOf b g m) (2 + name)) (b .n)) (b .k)) (range 0 (b .g)))
+pairs b =
+    sum (map (λ g. countBelow (λ name. anyBelow (λ m. eqb (answerOf b g m) (2 + name)) (b .shared .n)) (b .shared .k)) (range 0 (b .variant .g)))
 
--- 13: "scratch shorter than P×N + 32×N u32 words"
-unfoldable pub badScratch : Given → Areas → Bool
+-- "P×N + 32×N u32 words"
+unfoldable pub scratchNeed : Given → ℕ
 unfolding pairs
-badScratch b a = ltb (length (a .scratch)) (pairs b * b .n + 32 * b .n)
+scratchNeed b = pairs b * b .shared .n + 32 * b .shared .n
+
+-- 13: "scratch shorter than" what the run needs
+unfoldable pub badScratch : ℕ → List ℕ → Bool
+badScratch need scratch = ltb (length scratch) need
 
 -- the conditions of the input, in their order
 unfoldable pub inputTests : Given → List Test
@@ -129,7 +148,7 @@ inputTests b =
     ∷ test 10 (badAnswer b)
     ∷ []
 
--- the conditions of the state, in their order
-unfoldable pub stateTests : Given → Areas → List Test
+-- the conditions of the state, in their order: the chunk count on entry, areas for n modules, and scratch of so many words
+unfoldable pub stateTests : ℕ → ℕ → ℕ → Areas → List Test
 unfolding badEntryCount badArea badScratch
-stateTests b a = test 11 (badEntryCount b) ∷ test 12 (badArea b a) ∷ test 13 (badScratch b a) ∷ []
+stateTests on-entry n need a = test 11 (badEntryCount on-entry) ∷ test 12 (badArea n a) ∷ test 13 (badScratch need (a .scratch)) ∷ []

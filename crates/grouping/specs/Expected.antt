@@ -9,9 +9,10 @@ use Rattle.lists.specs.Range.{range}
 use Rattle.lists.specs.Same.{sameNumbers}
 use Rattle.refusal.specs.Outcome.{Outcome, refused, accepted}
 use Rattle.whole.specs.Double.{toF64}
-use Rattle.grouping.specs.Given.{Given, Areas}
+use Rattle.grouping.specs.Given.{Given, ModuleAreas, ChunkRecords, Areas}
 use Rattle.grouping.specs.Builds.{wordsOf}
 use Rattle.grouping.specs.Written.{written}
+use Rattle.grouping.specs.Conditions.{scratchNeed}
 use Rattle.grouping.specs.Call.{chunksOutcome}
 
 -- Lent areas for n modules with entries to spare, and scratch for p pairs with words to spare: each holds ascending numbers, from x, 2x, 3x and so on.
@@ -19,13 +20,15 @@ unfoldable pub lent : ℕ → ℕ → ℕ → ℕ → Areas
 unfolding range
 lent spare x n p =
     record {
-      chunk-of = range x (n + spare);
-      next-of = range (2 * x) (n + spare);
-      first-of = range (3 * x) (n + spare);
-      group-of = range (4 * x) (n + spare);
-      name-of = range (5 * x) (n + spare);
-      size-of = map toF64 (range (6 * x) (n + spare));
-      bits-of = range (7 * x) (4 * (n + spare));
+      modules = record { chunk-of = range x (n + spare); next-of = range (2 * x) (n + spare) };
+      records =
+          record {
+            first-of = range (3 * x) (n + spare);
+            group-of = range (4 * x) (n + spare);
+            name-of = range (5 * x) (n + spare);
+            size-of = map toF64 (range (6 * x) (n + spare));
+            bits-of = range (7 * x) (4 * (n + spare));
+          };
       scratch = range (8 * x) (p * n + 32 * n + spare);
     }
 
@@ -40,49 +43,52 @@ pub record ChunkRow : Type 0 where
 abbrev pub chunk : ℕ → ℕ → ℕ → ℕ → ℕ → ChunkRow
 chunk first group name size entries = record { first = first; group = group; name = name; size = size; entries = entries }
 
--- those areas after the call: what is written, and what lies past it as it was; scratch as zeros
-unfoldable pub filled : ℕ → ℕ → ℕ → ℕ → List ℕ → List ℕ → List ChunkRow → Areas
+-- Those areas after a call whose first new chunk has record `at`: what is written, and what lies before and past it as it was; scratch as zeros.
+unfoldable pub filled : ℕ → ℕ → ℕ → ℕ → ℕ → List ℕ → List ℕ → List ChunkRow → Areas
 unfolding range
-filled spare x n p chunk-of next-of chunks =
-    let count = length chunks in
-    let past = n + spare - count in
+filled at spare x n p chunk-of next-of chunks =
+    let end = at + length chunks in
+    let past = n + spare - end in
     record {
-      chunk-of = chunk-of ++ range (x + n) spare;
-      next-of = next-of ++ range (2 * x + n) spare;
-      first-of = map (λ c. c .first) chunks ++ range (3 * x + count) past;
-      group-of = map (λ c. c .group) chunks ++ range (4 * x + count) past;
-      name-of = map (λ c. c .name) chunks ++ range (5 * x + count) past;
-      size-of = map (λ c. toF64 (c .size)) chunks ++ map toF64 (range (6 * x + count) past);
-      bits-of = foldr (λ c rest. wordsOf (c .entries) ++ rest) [] chunks ++ range (7 * x + 4 * count) (4 * past);
+      modules = record { chunk-of = chunk-of ++ range (x + n) spare; next-of = next-of ++ range (2 * x + n) spare };
+      records =
+          record {
+            first-of = range (3 * x) at ++ (map (λ c. c .first) chunks ++ range (3 * x + end) past);
+            group-of = range (4 * x) at ++ (map (λ c. c .group) chunks ++ range (4 * x + end) past);
+            name-of = range (5 * x) at ++ (map (λ c. c .name) chunks ++ range (5 * x + end) past);
+            size-of = map toF64 (range (6 * x) at ++ (map (λ c. c .size) chunks ++ range (6 * x + end) past));
+            bits-of = range (7 * x) (4 * at) ++ (foldr (λ c rest. wordsOf (c .entries) ++ rest) [] chunks ++ range (7 * x + 4 * end) (4 * past));
+          };
       scratch = replicate (p * n + 32 * n + spare) 0;
     }
 
+-- what is handed in and the record of the first new chunk, the areas before, the answer and the areas after
 pub record Example : Type 0 where
   pub given : Given
+  pub at : ℕ
   pub before : Areas
   pub answer : Outcome ℕ
   pub after : Areas
 
 -- An accepted build in such areas: P, then chunk number plus 1 and next module plus 1 of each module, and the chunk records, whose count is the
 -- answer.
-unfoldable pub givesIn : ℕ → ℕ → Given → ℕ → List ℕ → List ℕ → List ChunkRow → Example
+unfoldable pub givesFrom : ℕ → ℕ → ℕ → Given → ℕ → List ℕ → List ℕ → List ChunkRow → Example
 unfolding lent filled
-givesIn spare x b p chunk-of next-of chunks =
+givesFrom at spare x b p chunk-of next-of chunks =
     record {
       given = b;
-      before = lent spare x (b .n) p;
+      at = at;
+      before = lent spare x (b .shared .n) p;
       answer = accepted (length chunks);
-      after = filled spare x (b .n) p chunk-of next-of chunks;
+      after = filled at spare x (b .shared .n) p chunk-of next-of chunks;
     }
 
--- the same with one entry to spare
+-- the same with the first record of its area for the first new chunk; and with one entry to spare
+abbrev pub givesIn : ℕ → ℕ → Given → ℕ → List ℕ → List ℕ → List ChunkRow → Example
+givesIn = givesFrom 0
+
 abbrev pub gives : Given → ℕ → List ℕ → List ℕ → List ChunkRow → Example
 gives = givesIn 1 1000
-
--- a build that is refused with a number, in areas with scratch for p pairs: no area is touched
-unfoldable pub refuses : Given → ℕ → ℕ → Example
-unfolding lent
-refuses b p number = record { given = b; before = lent 1 1000 (b .n) p; answer = refused number; after = lent 1 1000 (b .n) p }
 
 -- doubles are compared by their bits
 abbrev pub sameDoubles : List Float → List Float → Bool
@@ -94,23 +100,31 @@ sameOutcome (refused m) (accepted n) = false
 sameOutcome (accepted m) (refused n) = false
 sameOutcome (accepted m) (accepted n) = eqb m n
 
-unfoldable pub sameAreas : Areas → Areas → Bool
+unfoldable pub sameModules : ModuleAreas → ModuleAreas → Bool
+unfolding sameNumbers
+sameModules a b = sameNumbers (a .chunk-of) (b .chunk-of) && sameNumbers (a .next-of) (b .next-of)
+
+unfoldable pub sameRecords : ChunkRecords → ChunkRecords → Bool
 unfolding sameNumbers toBits
-sameAreas a b =
-    sameNumbers (a .chunk-of) (b .chunk-of)
-    && (sameNumbers (a .next-of) (b .next-of) && (sameNumbers (a .first-of) (b .first-of) && (sameNumbers (a .group-of) (b .group-of)
-    && (sameNumbers (a .name-of) (b .name-of) && (sameDoubles (a .size-of) (b .size-of) && (sameNumbers (a .bits-of) (b .bits-of) && sameNumbers (a .scratch) (b .scratch)))))))
+sameRecords a b =
+    sameNumbers (a .first-of) (b .first-of)
+    && (sameNumbers (a .group-of) (b .group-of) && (sameNumbers (a .name-of) (b .name-of)
+    && (sameDoubles (a .size-of) (b .size-of) && sameNumbers (a .bits-of) (b .bits-of))))
+
+unfoldable pub sameAreas : Areas → Areas → Bool
+unfolding sameModules sameRecords sameNumbers
+sameAreas a b = sameModules (a .modules) (b .modules) && (sameRecords (a .records) (b .records) && sameNumbers (a .scratch) (b .scratch))
 
 -- what a call leaves in the areas, by its answer
-abbrev pub leftBy : Outcome ℕ → Given → Areas → Areas
-leftBy (refused n) b before = before
-leftBy (accepted count) b before = written b before
+abbrev pub leftBy : Outcome ℕ → ℕ → Given → Areas → Areas
+leftBy (refused n) at b before = before
+leftBy (accepted count) at b before = written at b before
 
 unfoldable pub holds : Example → Bool
-unfolding sameOutcome sameAreas chunksOutcome written
+unfolding sameOutcome sameAreas chunksOutcome scratchNeed written
 holds x =
-    let answer = chunksOutcome (x .given) (x .before) in
-    sameOutcome answer (x .answer) && sameAreas (leftBy answer (x .given) (x .before)) (x .after)
+    let answer = chunksOutcome scratchNeed (x .given) (x .before) in
+    sameOutcome answer (x .answer) && sameAreas (leftBy answer (x .at) (x .given) (x .before)) (x .after)
 
 unfoldable pub allHold : List Example → Bool
 unfolding holds

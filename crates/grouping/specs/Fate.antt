@@ -7,14 +7,13 @@ use lib.ListN.{take, drop}
 use Rattle.lists.specs.Elem.{elem}
 use Rattle.lists.specs.Keep.{keep}
 use Rattle.lists.specs.Sort.{sortBy}
-use Rattle.whole.specs.Double.{sumF64}
 use Rattle.limit.specs.declared.Limit.{Limit}
 use Rattle.limit.specs.declared.Limit.the-variants.{Absent, Given}
 use Rattle.ids.specs.Order.{before}
 use Rattle.cut.specs.Cut.{Chosen, none, cut, cutOf}
-use Rattle.grouping.specs.Rules.{Rules}
+use Rattle.options.specs.declared.Settings.{Settings}
 use Rattle.grouping.specs.Tree.{Tree, memberAt}
-use Rattle.grouping.specs.Subgroups.{sizesAt}
+use Rattle.grouping.specs.Sizes.{sizesAt, itemSize}
 
 -- emptied earlier; dropped, below min_size; cut into a left and a right piece; or emitted as a chunk
 pub data Fate : Type 0 where
@@ -22,11 +21,6 @@ pub data Fate : Type 0 where
   dropped : Fate
   parted : List ℕ → List ℕ → Fate
   emitted : Fate
-
--- the size of an item
-unfoldable pub itemSize : Tree → List ℕ → Float
-unfolding sumF64
-itemSize tree places = sumF64 (sizesAt tree places)
 
 -- "put in id order"
 unfoldable pub inIdOrder : Tree → List ℕ → List ℕ
@@ -42,28 +36,28 @@ abbrev pub partedBy : List ℕ → List ℕ → Chosen → Fate
 partedBy places ordered none = emitted
 partedBy places ordered (cut i left right) = parted (among (take i ordered) places) (among (drop i ordered) places)
 
-unfoldable pub cutFate : Tree → Float → Float → List ℕ → Fate
+unfoldable pub cutFate : Settings → Tree → Float → List ℕ → Fate
 unfolding inIdOrder cutOf keep elem
-cutFate tree minimum maximum places =
+cutFate r tree maximum places =
     let ordered = inIdOrder tree places in
-    partedBy places ordered (cutOf (map (λ p. memberAt tree p .id) ordered) (sizesAt tree ordered) minimum maximum)
+    partedBy places ordered (cutOf (map (λ p. memberAt tree p .id) ordered) (sizesAt r tree ordered) (r .«min_size») maximum)
 
 -- "One strictly above max_size"
-abbrev pub cutIf : Bool → Tree → Float → Float → List ℕ → Fate
-cutIf true tree minimum maximum places = cutFate tree minimum maximum places
-cutIf false tree minimum maximum places = emitted
+abbrev pub cutIf : Bool → Settings → Tree → Float → List ℕ → Fate
+cutIf true r tree maximum places = cutFate r tree maximum places
+cutIf false r tree maximum places = emitted
 
-abbrev pub limitedTo : Limit → Tree → Float → List ℕ → Fate
-limitedTo Absent tree minimum places = emitted
-limitedTo (Given maximum) tree minimum places = cutIf (lt maximum (itemSize tree places)) tree minimum maximum places
+abbrev pub limitedTo : Limit → Settings → Tree → List ℕ → Fate
+limitedTo Absent r tree places = emitted
+limitedTo (Given maximum) r tree places = cutIf (lt maximum (itemSize r tree places)) r tree maximum places
 
 -- "One strictly below min_size is dropped"
-abbrev pub unless : Bool → Rules → Tree → List ℕ → Fate
+abbrev pub unless : Bool → Settings → Tree → List ℕ → Fate
 unless true r tree places = dropped
-unless false r tree places = limitedTo (r .max-size) tree (r .min-size) places
+unless false r tree places = limitedTo (r .«max_size») r tree places
 
 -- "An item emptied earlier is dropped."
-unfoldable pub fateOf : Rules → Tree → List ℕ → Fate
+unfoldable pub fateOf : Settings → Tree → List ℕ → Fate
 unfolding itemSize lt cutFate
 fateOf r tree [] = emptied
-fateOf r tree (p ∷ places) = unless (lt (itemSize tree (p ∷ places)) (r .min-size)) r tree (p ∷ places)
+fateOf r tree (p ∷ places) = unless (lt (itemSize r tree (p ∷ places)) (r .«min_size»)) r tree (p ∷ places)

@@ -1,8 +1,9 @@
 -- The chunk list, in the order of document 01: what is handed in, steps 1 to 5, what is written, the refusals, the call, and the
 -- renumbering rule.
 pub mod Given
-pub mod Rules
+pub mod Settings
 pub mod Tree
+pub mod Sizes
 pub mod Sets
 pub mod Item
 pub mod Subgroups
@@ -14,5 +15,11 @@ pub mod Conditions
 pub mod Call
 pub mod Renumbering
 pub mod Builds
+pub mod SetBuilds
+pub mod ItemBuilds
+pub mod TwinBuilds
 pub mod Expected
+pub mod Changes
+pub mod Damages
+pub mod Refusals
 pub mod Examples

@@ -6,11 +6,11 @@ use lib.Dec.{eqb}
 use lib.ListN.{length, getD}
 use Rattle.lists.specs.Keep.{keepHead}
 use Rattle.filter.specs.Filter.{passes}
-use Rattle.grouping.specs.Rules.{Rules}
+use Rattle.options.specs.declared.Settings.{Settings}
 use Rattle.grouping.specs.Tree.{Member, Tree}
 
 -- a member is matched by group g with a name, and passes the filter
-unfoldable pub takesPart : Rules → ℕ → ℕ → Member → Bool
+unfoldable pub takesPart : Settings → ℕ → ℕ → Member → Bool
 unfolding passes
 takesPart r g name m = eqb (getD (m .answers) g 0) (2 + name) && passes (r .filter) (m .tags) (m .size) (m .shares)
 
@@ -49,12 +49,12 @@ markedFrom p [] = []
 markedFrom p (a ∷ marks) = keepHead a p (markedFrom (suc p) marks)
 
 -- the set of (group, name): its places, ascending
-unfoldable pub setOf : Rules → ℕ → Tree → ℕ → List ℕ
+unfoldable pub setOf : Settings → ℕ → Tree → ℕ → List ℕ
 unfolding takesPart rounds markedFrom
 setOf r g tree name = markedFrom 0 (captured (r .recursive) tree (map (takesPart r g name) tree))
 
 -- some member takes part with this name
-unfoldable pub named : Rules → ℕ → Tree → ℕ → Bool
+unfoldable pub named : Settings → ℕ → Tree → ℕ → Bool
 unfolding takesPart
 named r g [] name = false
 named r g (m ∷ tree) name = takesPart r g name m || named r g tree name

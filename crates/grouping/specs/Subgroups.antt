@@ -7,14 +7,14 @@ use lib.Dec.{eqb}
 use lib.ListN.{length, getD}
 use Rattle.lists.specs.Keep.{keep}
 use Rattle.lists.specs.Range.{range}
-use Rattle.whole.specs.Double.{sumF64}
 use Rattle.bitset.specs.Entries.{wordAt}
 use Rattle.bitset.specs.declared.entries.BitSet.{BitSet}
 use Rattle.merge.specs.Subgroup.{Subgroup}
 use Rattle.merge.specs.Merge.{Merging, merged}
-use Rattle.grouping.specs.Rules.{Rules}
+use Rattle.options.specs.declared.Settings.{Settings}
 use Rattle.grouping.specs.Tree.{Tree, memberAt}
 use Rattle.grouping.specs.Item.{Item}
+use Rattle.grouping.specs.Sizes.{itemSize}
 
 -- "equal entry bits"
 unfoldable pub sameBits : BitSet → BitSet → Bool
@@ -32,21 +32,18 @@ unfoldable pub placesOfKind : Tree → List ℕ → BitSet → List ℕ
 unfolding keep sameBits
 placesOfKind tree places kind = keep (λ p. sameBits kind (memberAt tree p .bits)) places
 
--- the sizes of places, in their order
-abbrev pub sizesAt : Tree → List ℕ → List ℕ
-sizesAt tree places = map (λ p. memberAt tree p .size) places
-
 -- the subgroups before the merge, numbered from i
-unfoldable pub subgroupsFrom : ℕ → Tree → List ℕ → List BitSet → List Subgroup
-unfolding placesOfKind sumF64
-subgroupsFrom i tree places [] = []
-subgroupsFrom i tree places (kind ∷ kinds) =
-    record { number = i; size = sumF64 (sizesAt tree (placesOfKind tree places kind)); bits = kind } ∷ subgroupsFrom (suc i) tree places kinds
+unfoldable pub subgroupsFrom : ℕ → Settings → Tree → List ℕ → List BitSet → List Subgroup
+unfolding placesOfKind itemSize
+subgroupsFrom i r tree places [] = []
+subgroupsFrom i r tree places (kind ∷ kinds) =
+    record { number = i; size = itemSize r tree (placesOfKind tree places kind); bits = kind } ∷ subgroupsFrom (suc i) r tree places kinds
 
 -- the subgroups of a set, merged by the group's threshold
-unfoldable pub mergedSubgroups : Rules → Tree → List ℕ → List BitSet → Merging
+unfoldable pub mergedSubgroups : Settings → Tree → List ℕ → List BitSet → Merging
 unfolding merged subgroupsFrom range
-mergedSubgroups r tree places kinds = merged (r .threshold) (record { there = subgroupsFrom 0 tree places kinds; finals = range 0 (length kinds) })
+mergedSubgroups r tree places kinds =
+    merged (r .threshold) (record { there = subgroupsFrom 0 r tree places kinds; finals = range 0 (length kinds) })
 
 -- the number of the first kind that has these bits, counted from i
 unfoldable pub kindNumber : ℕ → List BitSet → BitSet → ℕ
@@ -59,12 +56,26 @@ unfoldable pub placesEnded : Tree → List ℕ → List BitSet → List ℕ → 
 unfolding keep kindNumber
 placesEnded tree places kinds finals number = keep (λ p. eqb (getD finals (kindNumber 0 kinds (memberAt tree p .bits)) 0) number) places
 
--- the items of an entries-aware set: its subgroups that are still there, with their united bits
-unfoldable pub dividedItems : Rules → ℕ → ℕ → Tree → List ℕ → List Item
+-- the item of a subgroup that is still there: its number, its united bits and the places that have ended there
+abbrev pub itemOfSubgroup : Settings → ℕ → ℕ → Tree → List ℕ → List BitSet → List ℕ → Subgroup → Item
+itemOfSubgroup r g name tree places kinds finals s =
+    record {
+      group = g;
+      name = name;
+      subgroup = s .number;
+      settings = r;
+      bits = some (s .bits);
+      places = placesEnded tree places kinds finals (s .number);
+    }
+
+-- the different bits of a set's places
+abbrev pub kindsAt : Tree → List ℕ → List BitSet
+kindsAt tree places = kindsOf (length places) (map (λ p. memberAt tree p .bits) places)
+
+-- the items of an entries-aware set: its subgroups that are still there
+unfoldable pub dividedItems : Settings → ℕ → ℕ → Tree → List ℕ → List Item
 unfolding kindsOf mergedSubgroups placesEnded
 dividedItems r g name tree places =
-    let kinds = kindsOf (length places) (map (λ p. memberAt tree p .bits) places) in
+    let kinds = kindsAt tree places in
     let m = mergedSubgroups r tree places kinds in
-    map
-    (λ s. record { group = g; name = name; subgroup = s .number; rules = r; bits = some (s .bits); places = placesEnded tree places kinds (m .finals) (s .number) })
-    (m .there)
+    map (itemOfSubgroup r g name tree places kinds (m .finals)) (m .there)

@@ -12,9 +12,9 @@ use Rattle.lists.specs.Sort.{sortBy}
 use Rattle.bitset.specs.Entries.{empty, rowOf}
 use Rattle.bitset.specs.declared.entries.BitSet.{BitSet}
 use Rattle.ids.specs.Parts.{idAt}
-use Rattle.flags.specs.Flags.{eligible}
+use Rattle.flags.specs.Flags.{eligibleAt}
 use Rattle.records.specs.Chain.{dependencies}
-use Rattle.grouping.specs.Given.{Given, answerOf}
+use Rattle.grouping.specs.Given.{Given, isEligible, answerOf}
 
 -- what is handed in for one eligible module: `edges` says of each place whether the module's chain names the module there
 pub record Member : Type 0 where
@@ -29,24 +29,31 @@ pub record Member : Type 0 where
 abbrev pub Tree : Type 0
 Tree = List Member
 
+-- module l comes before module m in execution order
+abbrev pub runsBefore : Given → ℕ → ℕ → Bool
+runsBefore b l m = ltb (getD (b .shared .orders) l 0) (getD (b .shared .orders) m 0)
+
 -- the eligible modules in execution order
 unfoldable pub placesOf : Given → List ℕ
-unfolding sortBy keep range eligible
-placesOf b = sortBy (λ l m. ltb (getD (b .orders) l 0) (getD (b .orders) m 0)) (keep (λ m. eligible (getD (b .flags) m 0)) (range 0 (b .n)))
+unfolding sortBy keep range eligibleAt
+placesOf b = sortBy (runsBefore b) (keep (isEligible b) (range 0 (b .shared .n)))
+
+-- the modules that are named along a module's chain
+abbrev pub namedBy : Given → ℕ → List ℕ
+namedBy b m = dependencies (b .shared .first) (b .shared .dependency) (b .shared .next) (b .shared .d) m
 
 -- module m, whose dependencies are looked for among the modules at `places`
 unfoldable pub memberOf : Given → List ℕ → ℕ → Member
 unfolding elem range rowOf idAt dependencies
 memberOf b places m =
-    let named = dependencies (b .first) (b .dependency) (b .next) (b .d) m in
     record {
-      id = idAt (b .bytes) (b .offsets) m;
-      size = getD (b .sizes) m 0;
-      shares = getD (b .shares) m 0;
-      tags = getD (b .tags) m 0;
-      bits = rowOf (b .bits) m;
-      answers = map (λ g. answerOf b g m) (range 0 (b .g));
-      edges = map (λ q. elem q named) places;
+      id = idAt (b .shared .bytes) (b .shared .offsets) m;
+      size = getD (b .shared .sizes) m 0;
+      shares = getD (b .shared .shares) m 0;
+      tags = getD (b .shared .tags) m 0;
+      bits = rowOf (b .shared .bits) m;
+      answers = map (λ g. answerOf b g m) (range 0 (b .variant .g));
+      edges = map (λ q. elem q (namedBy b m)) places;
     }
 
 unfoldable pub treeOf : Given → Tree

@@ -1,15 +1,15 @@
 -- What an accepted call writes: the chunk list with module numbers for places.
-use Prim.Native.Nat.{ℕ, suc, _*_}
+use Prim.Native.Nat.{ℕ, suc, _+_, _*_}
 use mathlib.Core.Bool.{cond}
 use mathlib.Core.List.{List, [], _∷_, _++_, map, foldr}
 use lib.Dec.{eqb}
-use lib.ListN.{length, drop, replicate}
+use lib.ListN.{length, take, drop, replicate}
 use Rattle.lists.specs.Elem.{elem}
 use Rattle.lists.specs.Keep.{keepHead}
 use Rattle.lists.specs.Range.{range}
-use Rattle.grouping.specs.Given.{Given, Areas}
+use Rattle.grouping.specs.Given.{Given, ModuleAreas, ChunkRecords, Areas}
 use Rattle.grouping.specs.Tree.{placesOf}
-use Rattle.grouping.specs.ChunkList.{chunkList}
+use Rattle.grouping.specs.ChunkList.{Chunk, chunkList}
 
 -- the modules at some of the places, in execution order; the first of them is at place p
 unfoldable pub modulesFrom : ℕ → List ℕ → List ℕ → List ℕ
@@ -45,19 +45,44 @@ abbrev pub firstModule : List ℕ → ℕ
 firstModule [] = 0
 firstModule (m ∷ modules) = suc m
 
--- the content of the areas after an accepted call: entries past N and chunk records past the last as they were, all of scratch zeros
-unfoldable pub written : Given → Areas → Areas
-unfolding range chunkNumber nextModule membersOf chunkList
-written b before =
-    let chunks = chunkList b in
-    let members = membersOf b in
+-- the entries for all modules, entries past N as they were
+abbrev pub perModule : ℕ → (ℕ → ℕ) → List ℕ → List ℕ
+perModule n value before = map value (range 0 n) ++ drop n before
+
+-- new records from the place `at` on, those before and past them as they were
+abbrev pub placed : {A : Type 0} → ℕ → List A → List A → List A
+placed at new before = take at before ++ (new ++ drop (at + length new) before)
+
+-- the words of the chunks' entry bits
+unfoldable pub bitWords : List Chunk → List ℕ
+bitWords chunks = foldr (λ c words. c .bits .words ++ words) [] chunks
+
+unfoldable pub writtenModules : Given → ModuleAreas → ModuleAreas
+unfolding range chunkNumber nextModule membersOf
+writtenModules b before =
     record {
-      chunk-of = map (λ m. chunkNumber (b .on-entry) m members) (range 0 (b .n)) ++ drop (b .n) (before .chunk-of);
-      next-of = map (λ m. nextModule m members) (range 0 (b .n)) ++ drop (b .n) (before .next-of);
-      first-of = map firstModule members ++ drop (length chunks) (before .first-of);
-      group-of = map (λ c. c .group) chunks ++ drop (length chunks) (before .group-of);
-      name-of = map (λ c. c .name) chunks ++ drop (length chunks) (before .name-of);
-      size-of = map (λ c. c .size) chunks ++ drop (length chunks) (before .size-of);
-      bits-of = foldr (λ c words. c .bits .words ++ words) [] chunks ++ drop (4 * length chunks) (before .bits-of);
+      chunk-of = perModule (b .shared .n) (λ m. chunkNumber (b .on-entry) m (membersOf b)) (before .chunk-of);
+      next-of = perModule (b .shared .n) (λ m. nextModule m (membersOf b)) (before .next-of);
+    }
+
+unfoldable pub writtenRecords : ℕ → Given → ChunkRecords → ChunkRecords
+unfolding membersOf chunkList bitWords
+writtenRecords at b before =
+    record {
+      first-of = placed at (map firstModule (membersOf b)) (before .first-of);
+      group-of = placed at (map (λ c. c .group) (chunkList b)) (before .group-of);
+      name-of = placed at (map (λ c. c .name) (chunkList b)) (before .name-of);
+      size-of = placed at (map (λ c. c .size) (chunkList b)) (before .size-of);
+      bits-of = placed (4 * at) (bitWords (chunkList b)) (before .bits-of);
+    }
+
+-- The content of the areas after an accepted call whose first new chunk has record `at`: entries past N and other records as they were, all of
+-- scratch zeros.
+unfoldable pub written : ℕ → Given → Areas → Areas
+unfolding writtenModules writtenRecords
+written at b before =
+    record {
+      modules = writtenModules b (before .modules);
+      records = writtenRecords at b (before .records);
       scratch = replicate (length (before .scratch)) 0;
     }

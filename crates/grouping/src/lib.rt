@@ -1,1 +1,1 @@
-// The definition of the chunk list. No code.
+// The definition of Chunks in specs/, with its worked examples and the claim over them. The call itself stands in the crates above.

@@ -10,7 +10,7 @@ use lib.ListN.{length, getD, take, drop, length-map}
 use lib.Seq.{slice, take-nil, drop-nil, length-slice}
 use Rattle.lists.specs.Range.{range}
 use Rattle.lists.proofs.Range.{length-range, getD-range}
-use Rattle.ids.specs.Offsets.{idTooLong, badOffsets}
+use Rattle.ids.specs.Offsets.{idLimit, idTooLong, badOffsets}
 use Rattle.ids.specs.Parts.{idAt, idsOf, InTable}
 use Rattle.ids.proofs.OffsetTable.{offset-within, offset-pair}
 
@@ -21,17 +21,19 @@ part-slice (suc s) zero l = rw (zero-sub, drop-nil)
 part-slice (suc s) (suc e) [] = take-nil (suc e - suc s)
 part-slice (suc s) (suc e) (x ∷ l) = rw suc-sub-suc (part-slice s e l)
 
-module _ (bytes offsets : List ℕ) (k : ℕ) (good : badOffsets (length bytes) offsets ≡ false) (h : k + 1 < length offsets) where
+module _ (longest : ℕ) (bytes offsets : List ℕ) (k : ℕ) (good : badOffsets longest (length bytes) offsets ≡ false) (h : k + 1 < length offsets) where
   pub in-table : InTable bytes offsets k
-  in-table = record { has-next = h; rises = offset-pair _ offsets good k h .0; ends = offset-within _ offsets good (k + 1) h }
+  in-table = record { has-next = h; rises = offset-pair longest _ offsets good k h .0; ends = offset-within longest _ offsets good (k + 1) h }
 
-  pub id-length : length (idAt bytes offsets k) ≤ 1024
+  pub id-length : length (idAt bytes offsets k) ≤ longest
   unfolding idAt
-  id-length = rw (length-slice _ _ bytes (in-table .ends)) (offset-pair _ offsets good k h .1)
+  id-length = rw (length-slice _ _ bytes (in-table .ends)) (offset-pair longest _ offsets good k h .1)
 
-  pub id-fits : idTooLong (idAt bytes offsets k) ≡ false
-  unfolding idTooLong
-  id-fits = le-ltb _ _ id-length
+-- under the limit of 1,024 bytes no id is too long
+pub id-fits : (bytes offsets : List ℕ) (k : ℕ) → badOffsets idLimit (length bytes) offsets ≡ false → k + 1 < length offsets
+    → idTooLong (idAt bytes offsets k) ≡ false
+unfolding idTooLong
+id-fits bytes offsets k good h = le-ltb _ _ (id-length idLimit bytes offsets k good h)
 
 -- ---- the ids of n modules
 

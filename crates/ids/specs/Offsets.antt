@@ -1,4 +1,4 @@
--- Refusal 3: an id offset falls or passes the end, or an id exceeds 1,024 bytes.
+-- Refusal 3: an id offset falls or passes the end, or an id exceeds its limit of length.
 use Prim.Native.Nat.{ℕ, _-_}
 use mathlib.Core.Bool.{Bool, false, _||_}
 use mathlib.Core.List.{List, [], _∷_}
@@ -13,8 +13,9 @@ idLimit = 1024
 unfoldable pub idTooLong : List ℕ → Bool
 idTooLong id = ltb idLimit (length id)
 
--- The offsets of a table against the end of the byte slice, each with the next.
-unfoldable pub badOffsets : ℕ → List ℕ → Bool
-badOffsets end [] = false
-badOffsets end (a ∷ []) = ltb end a
-badOffsets end (a ∷ b ∷ rest) = ltb end a || (ltb b a || (ltb idLimit (b - a) || badOffsets end (b ∷ rest)))
+-- The offsets of a table against the length of the longest id and the end of the byte slice, each with the next. Where there is no limit of
+-- length, the end itself is handed over, which an id within the slice can't exceed.
+unfoldable pub badOffsets : ℕ → ℕ → List ℕ → Bool
+badOffsets longest end [] = false
+badOffsets longest end (a ∷ []) = ltb end a
+badOffsets longest end (a ∷ b ∷ rest) = ltb end a || (ltb b a || (ltb longest (b - a) || badOffsets longest end (b ∷ rest)))

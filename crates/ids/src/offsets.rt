@@ -3,7 +3,7 @@ ghost use mathlib.Core.Path.{_≡_};
 ghost use mathlib.Core.Bool.{_||_};
 ghost use Prim.Native.Nat.{_-_};
 ghost use lib.Dec.{ltb};
-ghost use Rattle.ids.specs.Offsets.{idLimit, idTooLong, badOffsets};
+ghost use Rattle.ids.specs.Offsets.{idTooLong, badOffsets};
 
 // The longest id, in bytes.
 pub const ID_LIMIT: usize = 1024;
@@ -15,9 +15,9 @@ pub fn id_too_long(id: &[u8]) -> bool
     ID_LIMIT < id.len()
 }
 
-// An offset passes the end of the byte slice or falls, or an id is too long.
-pub fn bad_offsets(end: usize, offsets: &[u32]) -> bool
-    ensures { λ r. ⌜ r ≡ badOffsets end (now (offsets .entry)) ⌝ }
+// An offset passes the end of the byte slice or falls, or an id is longer than the longest allowed. Where none is too long, that is the end.
+pub fn bad_offsets(longest: usize, end: usize, offsets: &[u32]) -> bool
+    ensures { λ r. ⌜ r ≡ badOffsets longest end (now (offsets .entry)) ⌝ }
 {
     let mut k = 0;
     while k < offsets.len() {
@@ -27,7 +27,7 @@ pub fn bad_offsets(end: usize, offsets: &[u32]) -> bool
         }
         k = k + 1;
         if k < offsets.len() {
-            if bad_pair(a, offsets[k] as usize) {
+            if bad_pair(longest, a, offsets[k] as usize) {
                 return true;
             }
         }
@@ -36,11 +36,11 @@ pub fn bad_offsets(end: usize, offsets: &[u32]) -> bool
 }
 
 // Two offsets that follow each other fall, or hold an id that is too long.
-fn bad_pair(a: usize, b: usize) -> bool
-    ensures { λ r. ⌜ r ≡ (ltb b a || ltb idLimit (b - a)) ⌝ }
+fn bad_pair(longest: usize, a: usize, b: usize) -> bool
+    ensures { λ r. ⌜ r ≡ (ltb b a || ltb longest (b - a)) ⌝ }
 {
     if b < a {
         return true;
     }
-    ID_LIMIT < b - a
+    longest < b - a
 }

@@ -2,7 +2,9 @@
 pub mod Below
 pub mod Elem
 pub mod Keep
+pub mod Keys
 pub mod Least
+pub mod Packed
 pub mod Range
 pub mod Same
 pub mod Sort

@@ -11,6 +11,7 @@ use Rattle.options.specs.declared.Recursion.{Recursion}
 use Rattle.options.specs.declared.Recursion.the-variants as recursion
 use Rattle.options.specs.declared.Options.{Options}
 use Rattle.options.specs.declared.Group.{Group}
+use Rattle.options.specs.declared.Settings.{Settings}
 
 abbrev pub overLimit : Limit → Limit → Limit
 overLimit limit.Absent global = global
@@ -56,4 +57,18 @@ filterOf g force =
       «min_module_size» = force .«min_module_size»;
       «max_module_size» = force .«max_module_size»;
       «min_share_count» = force .«min_share_count»;
+    }
+
+-- the settings of a group under the global options
+abbrev pub settingsUnder : Options → Group → Settings
+settingsUnder global g =
+    let force = inForce (g .options) global in
+    record {
+      filter = filterOf g force;
+      recursive = recursive (force .recursion);
+      priority = g .priority;
+      «entries_aware» = g .«entries_aware»;
+      threshold = g .threshold;
+      «min_size» = minSizeOf (force .«min_size»);
+      «max_size» = force .«max_size»;
     }

@@ -1,5 +1,4 @@
 -- Refusal 8 over options: "a given limit or threshold is NaN".
-use Prim.Native.Nat.{ℕ}
 use mathlib.Core.Bool.{Bool, _||_}
 use lib.Ieee.{isNan}
 use Rattle.limit.specs.Limits.{isNanLimit}

@@ -1,5 +1,10 @@
 // The options of a build and of its groups.
+pub mod force;
+pub mod nan;
+pub mod tables;
+
 use filter::MinShareCount;
+use filter::StaticFilter;
 use limit::Limit;
 
 // Whether a matched module takes its dependencies along, if it is said.
@@ -26,4 +31,15 @@ pub struct Group {
     pub priority: u32,
     pub entries_aware: bool,
     pub threshold: f64,
+}
+
+// The settings of a group: its options in force, the global ones where it has none of its own, and the defaults.
+pub struct Settings {
+    pub filter: StaticFilter,
+    pub recursive: bool,
+    pub priority: u32,
+    pub entries_aware: bool,
+    pub threshold: f64,
+    pub min_size: f64,
+    pub max_size: Limit,
 }

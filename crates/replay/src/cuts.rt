@@ -1,6 +1,7 @@
 // cut TAG N MINIMUM MAXIMUM, then N times: ID SIZE
 use cut::Cut;
 use cut::CutAnswer;
+use index::ModuleIdx;
 use textform::doubles;
 use textform::numbers;
 use textform::numbers::Field;
@@ -10,21 +11,22 @@ use textform::parts;
 use textform::words;
 ghost use Prim.Native.Nat.{_<_, _≤_};
 
-// The id and the size of module i. The value is the place past the id's bytes, which is the next offset.
+// The id and the size of module m. The value is the place past the id's bytes, which is the next offset.
 fn read_module(
     line: &[u8],
     at: usize,
-    i: usize,
+    m: ModuleIdx,
     ids: &mut [u8; 16384],
     from: usize,
     offsets: &mut [u32; 257],
     sizes: &mut [u64; 256],
 ) -> Field
-    requires { ⌜ (i < 256) × (from ≤ 16384) ⌝ }
+    requires { ⌜ (m .0 < 256) × (from ≤ 16384) ⌝ }
     ensures { λ r. ⌜ r .value ≤ 16384 ⌝ }
 {
     let id = pairs::read(line, at, ids, from);
     let size = numbers::decimal(line, id.at);
+    let i = m.0 as usize;
     offsets[i + 1] = id.value as u32;
     sizes[i] = size.value;
     Field {
@@ -48,7 +50,8 @@ fn read_modules(
     let mut end = 0;
     let mut i = 0;
     while i < n {
-        let module = read_module(line, place, i, ids, end, offsets, sizes);
+        let m = i as u32;
+        let module = read_module(line, place, ModuleIdx(m), ids, end, offsets, sizes);
         place = module.at;
         end = module.value as usize;
         i = i + 1;

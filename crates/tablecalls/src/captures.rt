@@ -1,6 +1,7 @@
 // capture TAG N D RECURSIVE START, then N flags, N first records, D times: MODULE NEXT
 use capture::CaptureAnswer;
 use index::ModuleIdx;
+use index::RecordIdx;
 use textform::numbers;
 use textform::out;
 use textform::parts;
@@ -36,18 +37,19 @@ fn read_first(line: &[u8], at: usize, n: usize, first: &mut [u32; 256]) -> usize
     place
 }
 
-// Record i, where records are numbered from 1.
+// Record r, where records are numbered from 1.
 fn read_record(
     line: &[u8],
     at: usize,
-    i: usize,
+    r: RecordIdx,
     dependency: &mut [u32; 1025],
     next: &mut [u32; 1025],
 ) -> usize
-    requires { ⌜ i ≤ 1024 ⌝ }
+    requires { ⌜ r .0 ≤ 1024 ⌝ }
 {
     let module = numbers::decimal_within(line, at, 4294967295);
     let after = numbers::decimal_within(line, module.at, 4294967295);
+    let i = r.0 as usize;
     dependency[i] = module.value as u32;
     next[i] = after.value as u32;
     after.at
@@ -66,7 +68,8 @@ fn read_records(
     let mut i = 0;
     while i < d {
         i = i + 1;
-        place = read_record(line, place, i, dependency, next);
+        let r = i as u32;
+        place = read_record(line, place, RecordIdx(r), dependency, next);
     }
     place
 }

@@ -9,8 +9,7 @@ use crate::{Asked, ask};
 /// What came beside the answers.
 #[derive(Debug, Clone, PartialEq, Eq, Default)]
 pub struct Messages {
-    /// A line that can't be read, which ends the text, or a call that isn't there yet; each with
-    /// the number of its line.
+    /// A line that can't be read, which ends the text, with its number.
     pub lines: Vec<String>,
     /// How many lines that begin with `!` were written.
     pub warnings: usize,
@@ -30,7 +29,6 @@ impl Messages {
 /// An answer can't be written.
 pub fn answer_all(text: &str, answers: &mut impl Write) -> io::Result<Messages> {
     let mut messages = Messages::default();
-    let mut builds = build_lines(text);
     for case in Cases::new(text) {
         let case = match case {
             Ok(case) => case,
@@ -39,11 +37,8 @@ pub fn answer_all(text: &str, answers: &mut impl Write) -> io::Result<Messages> 
                 break;
             }
         };
-        let line = if is_build(&case) { builds.next() } else { None };
-        match ask(&case.question) {
-            Ok(asked) => messages.warnings += write_reply(case, asked, answers)?,
-            Err(_) => messages.lines.push(unsupported(&case, line)),
-        }
+        let asked = ask(&case.question);
+        messages.warnings += write_reply(case, asked, answers)?;
     }
     Ok(messages)
 }
@@ -57,26 +52,6 @@ fn write_reply(case: Case, asked: Asked, answers: &mut impl Write) -> io::Result
     let reply = Reply { tag: case.tag, call, outcome: asked.outcome, warnings };
     write!(answers, "{reply}")?;
     Ok(count)
-}
-
-/// The message for a call that the library doesn't have.
-fn unsupported(case: &Case, line: Option<usize>) -> String {
-    let call = case.question.call().word();
-    let message = format!("{call} {} unsupported: the library has no such call yet", case.tag);
-    match line {
-        Some(line) => format!("line {line}: {message}"),
-        None => message,
-    }
-}
-
-fn is_build(case: &Case) -> bool {
-    matches!(case.question, text::Question::Chunks(_))
-}
-
-/// The lines, counted from 1, on which the builds of a text begin.
-fn build_lines(text: &str) -> impl Iterator<Item = usize> + '_ {
-    let begins = |line: &str| line.split_whitespace().next() == Some("chunks");
-    text.lines().enumerate().filter(move |(_, line)| begins(line)).map(|(place, _)| place + 1)
 }
 
 #[cfg(test)]

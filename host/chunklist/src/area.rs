@@ -5,11 +5,18 @@ pub trait Pattern: Copy + PartialEq + Default {
     /// What an area holds at a place before it is lent: not zero, not the same everywhere, and no
     /// number that a call has reason to write there.
     fn at(place: usize) -> Self;
+
+    /// An item as a word.
+    fn word(self) -> u64;
 }
 
 impl Pattern for u8 {
     fn at(place: usize) -> Self {
         0xa0 | (place % 16) as Self
+    }
+
+    fn word(self) -> u64 {
+        self.into()
     }
 }
 
@@ -17,11 +24,29 @@ impl Pattern for u32 {
     fn at(place: usize) -> Self {
         0xa5a5_0000 | (place % 0x1_0000) as Self
     }
+
+    fn word(self) -> u64 {
+        self.into()
+    }
 }
 
 impl Pattern for u64 {
     fn at(place: usize) -> Self {
         0xa5a5_a5a5_0000_0000 | (place % 0x1_0000_0000) as Self
+    }
+
+    fn word(self) -> u64 {
+        self
+    }
+}
+
+impl Pattern for f64 {
+    fn at(place: usize) -> Self {
+        Self::from_bits(u64::at(place))
+    }
+
+    fn word(self) -> u64 {
+        self.to_bits()
     }
 }
 
@@ -69,6 +94,14 @@ impl<T: Pattern> Lent<T> {
     pub fn zeros(&self) -> Option<String> {
         let place = self.items.iter().position(|item| *item != T::default())?;
         Some(format!("{}[{place}] didn't end as zero", self.name))
+    }
+
+    /// The items as words; where one still holds the pattern, that of words.
+    pub fn words(&self) -> Vec<u64> {
+        let word = |(place, item): (usize, &T)| {
+            if *item == T::at(place) { u64::at(place) } else { item.word() }
+        };
+        self.items.iter().enumerate().map(word).collect()
     }
 
     /// The first place, not below `from`, that no longer holds the pattern.

@@ -3,6 +3,7 @@
 use text::{Answer, Question};
 
 mod capture;
+pub mod chunks;
 mod cut;
 mod filter;
 mod merge;
@@ -29,23 +30,15 @@ impl Asked {
     }
 }
 
-/// The library doesn't have the call yet.
-#[derive(Debug, Clone, Copy, PartialEq, Eq)]
-pub struct Unsupported;
-
 /// Lends areas as long as the question says, with a pattern in them, calls, and looks at them.
-///
-/// # Errors
-///
-/// A whole build can't be asked yet.
-pub fn ask(question: &Question) -> Result<Asked, Unsupported> {
+pub fn ask(question: &Question) -> Asked {
     match question {
-        Question::Sim(sim) => Ok(similarity::ask(sim)),
-        Question::Cut(cut) => Ok(cut::ask(cut)),
-        Question::Capture(capture) => Ok(capture::ask(capture)),
-        Question::Filter(filter) => Ok(filter::ask(filter)),
-        Question::Merge(merge) => Ok(merge::ask(merge)),
-        Question::Chunks(_) => Err(Unsupported),
+        Question::Sim(sim) => similarity::ask(sim),
+        Question::Cut(cut) => cut::ask(cut),
+        Question::Capture(capture) => capture::ask(capture),
+        Question::Filter(filter) => filter::ask(filter),
+        Question::Merge(merge) => merge::ask(merge),
+        Question::Chunks(chunks) => chunks::ask_build(chunks).asked,
     }
 }
 

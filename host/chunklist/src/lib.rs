@@ -5,7 +5,7 @@
 //!
 //! ```
 //! let case = &text::read_cases("sim first 61 6a\n").unwrap()[0];
-//! let asked = chunklist::ask(&case.question).unwrap();
+//! let asked = chunklist::ask(&case.question);
 //! assert_eq!(asked.outcome, Ok(text::Answer::Sim(1)));
 //! assert!(asked.warnings.is_empty());
 //! ```
@@ -18,4 +18,7 @@ mod ask;
 
 pub use answer_all::{Messages, answer_all};
 pub use area::{Lent, Pattern};
-pub use ask::{Asked, Unsupported, ask};
+pub use ask::{
+    Asked, ask,
+    chunks::{AskedBuild, BuildAreas, ask_build, group, raw_tables},
+};

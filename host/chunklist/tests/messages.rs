@@ -24,13 +24,13 @@ fn a_bad_line_is_named_and_ends_the_text() {
 }
 
 #[test]
-fn a_build_is_said_to_be_unsupported_and_the_rest_is_answered() {
+fn a_build_is_answered_among_other_calls() {
+    let answer = "chunks b 0\nm\nend\n";
     ran(
         &format!("sim a . .\n{BUILD}\n{BUILD}sim c 61 61\n"),
-        "sim a 0\nsim c 10\n",
-        "chunklist: standard input: line 2: chunks b unsupported: the library has no such call yet\n\
-         chunklist: standard input: line 6: chunks b unsupported: the library has no such call yet\n",
-        1,
+        &format!("sim a 0\n{answer}{answer}sim c 10\n"),
+        "",
+        0,
     );
 }
 

@@ -1,9 +1,12 @@
 //! The recorded corpus: small cases that tell, chosen by the faults they notice and the kinds
-//! they show, with the crate's answers under document 01's order.
+//! they show, with the crate's answers under document 01's order; and cases that notice faults of
+//! the reading of document 01.
 //!
 //! Three pairs of files: `leaves.txt` and `builds.txt` with the crate's answers in
 //! `leaves.answers.txt` and `builds.answers.txt`, and `refusals.txt`, whose answers follow from
 //! document 01's tables alone.
+
+mod reading;
 
 use std::{
     collections::{BTreeMap, BTreeSet},
@@ -52,11 +55,13 @@ struct Pair {
 /// Writes the corpus, or compares it with the files that are there; true if they are the same.
 pub fn write(folder: &Path, check: bool) -> Result<bool, String> {
     let leaves = [Call::Similarity, Call::Cut, Call::Capture, Call::Filter, Call::Merge];
+    let (mut builds, mut refusals) = (recorded(&[Call::Chunks]), refusals());
+    reading::complete(&mut builds, &mut refusals);
     let mut files = Vec::new();
     for (name, origin, pair) in [
         ("leaves", "the crate's own text", recorded(&leaves)),
-        ("builds", "the crate's own text under document 01's order", recorded(&[Call::Chunks])),
-        ("refusals", "document 01's tables of refusals", refusals()),
+        ("builds", "the crate's own text under document 01's order", builds),
+        ("refusals", "document 01's tables of refusals", refusals),
     ] {
         let head = format!("# Made by `differ corpus`. The answers are those of {origin}.\n");
         files.push((folder.join(format!("{name}.txt")), head + &pair.cases));
@@ -159,20 +164,26 @@ fn answered(question: Question) -> Option<Candidate> {
 fn refusals() -> Pair {
     let mut pair = Pair::default();
     for call in Call::ALL {
-        let mut candidates = Vec::new();
-        for case in 0..REFUSAL_CANDIDATES {
-            let mut rng = Rng::for_case(SEED + 1, case);
-            let mut question = generate::plain(call, &mut rng);
-            if let Some(planted) = damage::damage(&mut rng, &mut question) {
-                let response = Reference.respond(&question);
-                assert!(response == Response::Refused(planted), "another number was planted");
-                candidates.push(Candidate::new(question, response));
-            }
-        }
+        let mut candidates = damaged(call);
         candidates.sort_by_key(|candidate| candidate.text.len());
         pair.add_refusals(call, candidates);
     }
     pair
+}
+
+/// Random questions of a call, damaged.
+fn damaged(call: Call) -> Vec<Candidate> {
+    let mut candidates = Vec::new();
+    for case in 0..REFUSAL_CANDIDATES {
+        let mut rng = Rng::for_case(SEED + 1, case);
+        let mut question = generate::plain(call, &mut rng);
+        if let Some(planted) = damage::damage(&mut rng, &mut question) {
+            let response = Reference.respond(&question);
+            assert!(response == Response::Refused(planted), "another number was planted");
+            candidates.push(Candidate::new(question, response));
+        }
+    }
+    candidates
 }
 
 impl Candidate {
@@ -183,6 +194,11 @@ impl Candidate {
 }
 
 impl Pair {
+    /// How many cases it holds: each stands after a line that says why.
+    fn count(&self) -> usize {
+        self.cases.lines().filter(|line| line.starts_with("# ")).count()
+    }
+
     /// Adds a case and its answer.
     fn add(&mut self, tag: &str, reason: &str, candidate: Candidate) {
         let Candidate { question, response, .. } = candidate;

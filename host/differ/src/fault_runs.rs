@@ -1,5 +1,5 @@
-//! Deliberate faults: each faulty copy of the crate's text is run against the unchanged one and, on
-//! leaves, against the library.
+//! Deliberate faults: each faulty copy of the crate's text is run against the unchanged one and
+//! against the library.
 
 use std::panic::{AssertUnwindSafe, catch_unwind};
 
@@ -16,15 +16,10 @@ use crate::{
 /// How a fault fared.
 pub struct Verdict {
     pub fault: Fault,
-    /// Questions of its own call that were put to it, and those whose answers differ.
-    pub asked: u64,
-    pub noticed: u64,
-    /// Those that the library answered too, and those whose answers differ from the library's.
-    pub library_asked: u64,
-    pub library_noticed: u64,
-    /// Whole builds that were put to it, and those whose answers differ.
-    pub builds_asked: u64,
-    pub builds_noticed: u64,
+    /// Questions of its own leaf that were put to it.
+    pub leaves: Count,
+    /// Whole builds that were put to it.
+    pub builds: Count,
 }
 
 /// The call that a fault spoils.
@@ -55,36 +50,27 @@ pub fn all(seed: u64, cases: u64) -> Vec<Verdict> {
     for call in Call::ALL {
         let leaves = if call == Call::Chunks { Vec::new() } else { questions(call, seed, cases) };
         for fault in faults::all().into_iter().filter(|fault| call_of(fault) == call) {
-            let of_leaves = count(&fault, &leaves);
-            let of_builds = count(&fault, &builds);
-            verdicts.push(Verdict {
-                asked: of_leaves.asked,
-                noticed: of_leaves.noticed,
-                library_asked: of_leaves.library_asked,
-                library_noticed: of_leaves.library_noticed,
-                builds_asked: of_builds.asked,
-                builds_noticed: of_builds.noticed,
-                fault,
-            });
+            let (leaves, builds) = (count(&fault, &leaves), count(&fault, &builds));
+            verdicts.push(Verdict { fault, leaves, builds });
         }
     }
     verdicts
 }
 
-/// A question with the crate's answer, and the library's where it has the call.
+/// A question with the crate's answer and the library's.
 struct Known {
     question: Question,
     answer: Response,
-    library: Option<Response>,
+    library: Response,
 }
 
-/// How many questions were put to a fault, and how many of its answers differ.
+/// How many questions were put to a fault, and how many of its answers differ from the crate's and
+/// from the library's.
 #[derive(Default)]
-struct Count {
-    asked: u64,
-    noticed: u64,
-    library_asked: u64,
-    library_noticed: u64,
+pub struct Count {
+    pub asked: u64,
+    pub noticed: u64,
+    pub library: u64,
 }
 
 /// How many of these a fault changes the answer to.
@@ -94,10 +80,7 @@ fn count(fault: &Fault, questions: &[Known]) -> Count {
         let response = faulty(fault, &known.question);
         count.asked += 1;
         count.noticed += u64::from(response.as_ref() != Some(&known.answer));
-        if let Some(library) = &known.library {
-            count.library_asked += 1;
-            count.library_noticed += u64::from(response.as_ref() != Some(library));
-        }
+        count.library += u64::from(response.as_ref() != Some(&known.library));
     }
     count
 }
@@ -117,7 +100,7 @@ fn questions(call: Call, seed: u64, cases: u64) -> Vec<Known> {
 
 /// Has the library answer too.
 fn known((question, answer): (Question, Response)) -> Known {
-    let library = Some(Library.respond(&question)).filter(|said| *said != Response::Absent);
+    let library = Library.respond(&question);
     Known { question, answer, library }
 }
 

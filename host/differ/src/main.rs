@@ -5,6 +5,7 @@ mod corpus;
 mod fault_runs;
 mod generate;
 mod kinds;
+mod reading_faults;
 mod reference;
 mod report;
 mod rng;
@@ -24,6 +25,9 @@ differ: the crate's own text, document 01 and the proved library, run on the sam
   differ all [--cases N] [--builds N] [--seed S]   runs everything; N random cases for each leaf
                                                    (200000) and N whole builds (as many)
   differ faults [--cases N] [--seed S]             runs every deliberate fault (N: 4000)
+  differ reading-faults [--cases N] [FOLDER]       runs every deliberate fault of the reading on the
+                                                   recorded builds and refusals, and on N random
+                                                   builds beside them (0)
   differ corpus [FOLDER]                           writes the recorded corpus (into `corpus`)
   differ corpus --check [FOLDER]                   compares the recorded corpus with a new one
   differ answer [--side SIDE] [--walk WALK] [FILE] answers the cases of a file or of standard input;
@@ -67,6 +71,13 @@ fn command(arguments: &[String]) -> Result<bool, String> {
             options.done(0)?;
             fault_runs::break_off_quietly();
             Ok(report::faults(&fault_runs::all(seed, cases)))
+        }
+        "reading-faults" => {
+            let cases = options.number("--cases")?.unwrap_or(0);
+            options.done(1)?;
+            let folder = PathBuf::from(options.rest.first().map_or("corpus", String::as_str));
+            fault_runs::break_off_quietly();
+            Ok(report::reading_faults(&reading_faults::all(&folder, cases)?))
         }
         "corpus" => {
             let check = options.flag("--check");

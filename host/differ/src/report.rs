@@ -3,7 +3,8 @@
 use text::Call;
 
 use crate::{
-    fault_runs::Verdict,
+    fault_runs::{Count, Verdict},
+    reading_faults::Fared,
     run::{LibraryTally, Run},
 };
 
@@ -45,12 +46,8 @@ fn print_refusals(refused: &[u64; 14]) {
 
 /// What was put to the library.
 fn print_library(tally: &LibraryTally) {
-    let LibraryTally { answered, refused, absent, wrote } = tally;
-    if *absent > 0 {
-        println!("  library: not asked, since it doesn't have this call yet ({absent} questions)");
-    } else {
-        println!("  library: {answered} answered, {refused} refused, {wrote} wrote elsewhere");
-    }
+    let LibraryTally { answered, refused, wrote } = tally;
+    println!("  library: {answered} answered, {refused} refused, {wrote} wrote elsewhere");
 }
 
 /// How the builds compared under other walks.
@@ -68,32 +65,45 @@ pub fn faults(verdicts: &[Verdict]) -> bool {
         let fault = verdict.fault.change;
         println!("{} {}: {}", fault.leaf, fault.name, one_line(fault.replaced));
         println!("    becomes {}", one_line(fault.with));
-        if verdict.asked > 0 {
-            println!("    noticed in {} of {} calls", verdict.noticed, verdict.asked);
+        if verdict.leaves.asked > 0 {
+            print_count(&verdict.leaves, "calls");
         }
-        if verdict.library_asked > 0 {
-            let Verdict { library_noticed, library_asked, .. } = verdict;
-            println!("    against the library in {library_noticed} of {library_asked} calls");
-        }
-        println!("    noticed in {} of {} builds", verdict.builds_noticed, verdict.builds_asked);
+        print_count(&verdict.builds, "builds");
     }
     let unnoticed: Vec<&Verdict> = verdicts.iter().filter(|verdict| !is_noticed(verdict)).collect();
     for verdict in &unnoticed {
         println!("not noticed: {} {}", verdict.fault.change.leaf, verdict.fault.change.name);
     }
     println!("{} of {} faults noticed", verdicts.len() - unnoticed.len(), verdicts.len());
-    let asked = verdicts.iter().filter(|verdict| verdict.library_asked > 0);
-    let noticed = asked.clone().filter(|verdict| verdict.library_noticed > 0);
-    println!("{} of {} faults of leaves noticed by the library", noticed.count(), asked.count());
     unnoticed.is_empty()
 }
 
-/// A leaf's fault has to be noticed by the leaf's own questions, against the library too.
-fn is_noticed(verdict: &Verdict) -> bool {
-    if verdict.asked == 0 {
-        return verdict.builds_noticed > 0;
+/// Prints how the reading's faults fared; true if the recorded cases notice every one.
+pub fn reading_faults(all: &[Fared]) -> bool {
+    for Fared { fault, builds, refusals, random } in all {
+        print!("{fault:?}: {} recorded ({builds} builds, {refusals} refusals)", builds + refusals);
+        println!("{}", random.map_or(String::new(), |random| format!(", {random} random")));
     }
-    verdict.noticed > 0 && verdict.library_noticed > 0
+    let unnoticed: Vec<&Fared> = all.iter().filter(|one| one.builds + one.refusals == 0).collect();
+    for one in &unnoticed {
+        println!("not noticed: {:?}", one.fault);
+    }
+    println!("{} of {} faults of the reading noticed", all.len() - unnoticed.len(), all.len());
+    unnoticed.is_empty()
+}
+
+/// How many questions notice a fault.
+fn print_count(count: &Count, what: &str) {
+    let Count { asked, noticed, library } = count;
+    println!("    noticed in {noticed} of {asked} {what}, against the library in {library}");
+}
+
+/// A leaf's fault has to be noticed by the leaf's own questions, others by whole builds, and both
+/// against the library too.
+fn is_noticed(verdict: &Verdict) -> bool {
+    let leaf = verdict.leaves.asked > 0;
+    let count = if leaf { &verdict.leaves } else { &verdict.builds };
+    count.noticed > 0 && count.library > 0
 }
 
 /// A text of the crate on one line.

@@ -46,8 +46,6 @@ pub struct LibraryTally {
     /// Questions that it answered, and those that it refused.
     pub answered: u64,
     pub refused: u64,
-    /// Whole builds that it wasn't asked, since it doesn't have the call yet.
-    pub absent: u64,
     /// Calls that wrote where they must not, or left scratch that isn't zero.
     pub wrote: u64,
 }
@@ -209,7 +207,7 @@ impl Run {
         }
     }
 
-    /// The library has to say the same and to write nowhere else; whole builds may wait.
+    /// The library has to say the same and to write nowhere else.
     fn check_library(&mut self, question: &Question, expected: &Response) {
         let response = Library.respond(question);
         match response {
@@ -217,12 +215,6 @@ impl Run {
             Response::Refused(_) => self.library.refused += 1,
             Response::Wrote(..) => self.library.wrote += 1,
             Response::Outside(_) => {}
-            Response::Absent => {
-                self.library.absent += 1;
-                if question.call() == Call::Chunks {
-                    return;
-                }
-            }
         }
         self.expect(Reference.name(), expected, Library.name(), &response, question);
     }
@@ -269,6 +261,5 @@ pub fn written(tag: &str, call: Call, response: &Response) -> String {
         Response::Refused(number) => reply(Err(*number), &[]),
         Response::Wrote(outcome, warnings) => reply(outcome.clone(), warnings),
         Response::Outside(outside) => format!("# {tag} can't be asked: {outside}\n"),
-        Response::Absent => format!("# {tag} can't be asked: there is no such call yet\n"),
     }
 }

@@ -1,10 +1,10 @@
 //! A side: something that answers questions.
 
-use chunklist::{Asked, Unsupported};
+use chunklist::{Asked, AskedBuild, ask_build};
 use judge::{Judge, Outside};
-use text::{Answer, Question};
+use text::{Answer, Chunks, Question, tables};
 
-use crate::reference;
+use crate::reference::{self, areas, rules::SOUND};
 
 /// What a side says to a question.
 #[derive(Debug, Clone, PartialEq)]
@@ -14,8 +14,6 @@ pub enum Response {
     Refused(u32),
     /// It can't be asked this.
     Outside(Outside),
-    /// It doesn't have the call yet.
-    Absent,
     /// What it wrote where it must not, or left in scratch, beside what it said.
     Wrote(Result<Answer, u32>, Vec<String>),
 }
@@ -39,7 +37,8 @@ pub trait Side {
 }
 
 /// The proved library, which is asked every question, damaged ones included. Its areas are lent with
-/// a pattern in them and looked at after the call.
+/// a pattern in them and looked at after the call; those of a whole build have to hold, entry by
+/// entry, what the reading says of them.
 pub struct Library;
 
 impl Side for Library {
@@ -48,12 +47,25 @@ impl Side for Library {
     }
 
     fn respond(&self, question: &Question) -> Response {
-        match chunklist::ask(question) {
-            Err(Unsupported) => Response::Absent,
-            Ok(Asked { outcome, warnings }) if warnings.is_empty() => outcome.into(),
-            Ok(Asked { outcome, warnings }) => Response::Wrote(outcome, warnings),
-        }
+        let Asked { outcome, warnings } = match question {
+            Question::Chunks(chunks) => build(chunks),
+            leaf => chunklist::ask(leaf),
+        };
+        if warnings.is_empty() { outcome.into() } else { Response::Wrote(outcome, warnings) }
     }
+}
+
+/// A whole build, with the areas held against those of the reading.
+fn build(chunks: &Chunks) -> Asked {
+    let AskedBuild { mut asked, areas } = ask_build(chunks);
+    let outcome = match &asked.outcome {
+        Ok(Answer::Chunks(list)) => Ok(list),
+        Ok(_) => return asked,
+        Err(number) => Err(*number),
+    };
+    let after = areas::after(&tables::of_chunks(chunks), outcome, SOUND);
+    asked.warnings.extend(after.differs_from(&areas.words()));
+    asked
 }
 
 /// Document 01, read plainly.
@@ -80,5 +92,44 @@ impl Side for Judge {
             Ok(answer) => Response::Answered(answer),
             Err(outside) => Response::Outside(outside),
         }
+    }
+}
+
+#[cfg(test)]
+mod tests {
+    use chunklist::ask_build;
+    use text::{Answer, Call, Question, tables};
+
+    use crate::{
+        generate,
+        reference::{areas, rules::SOUND},
+        rng::Rng,
+    };
+
+    /// Changes one word at a time in the areas of a few builds, past the end too.
+    #[test]
+    fn every_entry_of_every_area_is_held_against_the_reading() {
+        let mut changed = 0;
+        for case in 0..40 {
+            let Question::Chunks(chunks) =
+                generate::plain(Call::Chunks, &mut Rng::for_case(9, case))
+            else {
+                unreachable!("a whole build was asked for")
+            };
+            let asked = ask_build(&chunks);
+            let Ok(Answer::Chunks(list)) = &asked.asked.outcome else { continue };
+            let after = areas::after(&tables::of_chunks(&chunks), Ok(list), SOUND);
+            let words = asked.areas.words();
+            assert_eq!(after.differs_from(&words), None);
+            for area in 0..words.len() {
+                for place in 0..words[area].len() {
+                    let mut other = words.clone();
+                    other[area][place] ^= 1;
+                    assert!(after.differs_from(&other).is_some(), "area {area}, entry {place}");
+                    changed += 1;
+                }
+            }
+        }
+        assert!(changed > 1_000, "{changed}");
     }
 }

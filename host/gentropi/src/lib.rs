@@ -12,10 +12,12 @@
 //! | [`filter`] | whether a module passes a group's static limits | yes or no |
 //! | [`capture`] | what a module captures along its dependencies | a mark for each module |
 //! | [`merge`] | which small subgroups join which | numbers, sizes and entry bits |
+//! | [`chunks`] | how a whole build is divided | the new chunks |
 //!
 //! Areas are lent by the caller and may be longer than needed: what lies past the end keeps its
-//! content. [`capture_to_vec`] and [`merge_to_vec`] lend areas of their own. [`raw`] has the calls
-//! with counts apart from lengths, and [`sys`] the C functions.
+//! content. [`capture_to_vec`], [`merge_to_vec`] and [`chunks_to_vec`] lend areas of their own. [`raw`]
+//! has the calls with counts apart from lengths, and [`sys`] the C functions. [`chunks`] takes some
+//! 500 KB of stack, the others little.
 //!
 //! # Example
 //!
@@ -48,8 +50,10 @@
 #![warn(missing_docs)]
 
 mod capture;
+mod chunks;
 mod cut;
 mod filter;
+mod groups;
 mod ids;
 pub mod limits;
 mod merge;
@@ -60,8 +64,10 @@ mod refusal;
 pub mod sys;
 
 pub use capture::{Chains, Modules, capture, capture_to_vec, flag};
+pub use chunks::{Build, Chunk, ChunksAreas, chunks, chunks_to_vec};
 pub use cut::{Cut, cut};
 pub use filter::{FilteredModule, StaticFilter, filter};
+pub use groups::{Group, GroupBuf, Options};
 pub use ids::{IdBuf, Ids, similarity};
 pub use merge::{EntryBits, MergeAreas, Merged, Subgroups, merge, merge_to_vec};
 pub use refusal::Refusal;

@@ -195,3 +195,196 @@ pub fn merge(tables: &MergeTables<'_>, areas: MergeAreas<'_>) -> u32 {
         )
     }
 }
+
+/// Options as Chunks takes them: a byte that says which are given, beside numbers.
+#[derive(Debug, Clone, Copy, PartialEq, Default)]
+pub struct OptionNumbers {
+    /// 1 `min_size`, 2 `max_size`, 4 `min_module_size`, 8 `max_module_size`, 16 `min_share_count`,
+    /// 32 recursion is given, 64 it is on; summed.
+    pub given: u8,
+    /// What an item has to reach.
+    pub min_size: f64,
+    /// What an item should not pass.
+    pub max_size: f64,
+    /// What a module has to reach.
+    pub min_module_size: f64,
+    /// What a module must not pass.
+    pub max_module_size: f64,
+    /// How many entries have to reach a module.
+    pub min_share_count: u32,
+}
+
+/// The groups of a build, one item for each in every table.
+#[derive(Debug, Clone, Copy, PartialEq)]
+pub struct GroupTables<'a> {
+    /// As [`OptionNumbers::given`], and 128 if the group is entries-aware.
+    pub given: &'a [u8],
+    /// What an item has to reach.
+    pub min_size: &'a [f64],
+    /// What an item should not pass.
+    pub max_size: &'a [f64],
+    /// What a module has to reach.
+    pub min_module_size: &'a [f64],
+    /// What a module must not pass.
+    pub max_module_size: &'a [f64],
+    /// How many entries have to reach a module.
+    pub min_share_count: &'a [u32],
+    /// The tags that a module needs.
+    pub tags: &'a [u64],
+    /// A higher one goes first.
+    pub priority: &'a [u32],
+    /// Below it a subgroup seeks another to join.
+    pub threshold: &'a [f64],
+}
+
+/// What Chunks is handed.
+#[derive(Debug, Clone, Copy, PartialEq)]
+pub struct ChunksTables<'a> {
+    /// How many modules there are.
+    pub n: usize,
+    /// How many groups there are.
+    pub g: usize,
+    /// How many entries there are.
+    pub e: usize,
+    /// How many names there are.
+    pub k: usize,
+    /// How many dependency records there are.
+    pub d: usize,
+    /// The flag byte of each module.
+    pub flags: &'a [u8],
+    /// The size of each module.
+    pub sizes: &'a [u64],
+    /// The execution order of each module.
+    pub orders: &'a [u32],
+    /// How many entries reach each module.
+    pub shares: &'a [u32],
+    /// The tags of each module.
+    pub tags: &'a [u64],
+    /// The entry bits of each module, four words each.
+    pub bits: &'a [u64],
+    /// The slice that the ids are parts of.
+    pub bytes: &'a [u8],
+    /// `n + 1` offsets into it.
+    pub offsets: &'a [u32],
+    /// The first record of each module, or 0.
+    pub first: &'a [u32],
+    /// The module that each record names; `d + 1` numbers, of which the first is never read.
+    pub dependency: &'a [u32],
+    /// The record after each record, or 0; `d + 1` numbers, of which the first is never read.
+    pub next: &'a [u32],
+    /// The options of the build as a whole.
+    pub options: OptionNumbers,
+    /// The groups.
+    pub groups: GroupTables<'a>,
+    /// Group by group one answer for each module: 0 not matched, 1 matched without a name, 2 and
+    /// more the name with that number less 2.
+    pub answers: &'a [u32],
+    /// How many chunks there are already.
+    pub on_entry: usize,
+}
+
+/// The areas that Chunks writes, and the place of the count.
+#[derive(Debug, PartialEq)]
+pub struct ChunksAreas<'a> {
+    /// The chunk of each module plus 1, or 0.
+    pub chunk_of: &'a mut [u32],
+    /// The module after each in its chunk plus 1, or 0.
+    pub next_of: &'a mut [u32],
+    /// The first module of each new chunk plus 1.
+    pub first_of: &'a mut [u32],
+    /// The group of each new chunk.
+    pub group_of: &'a mut [u32],
+    /// The name of each new chunk.
+    pub name_of: &'a mut [u32],
+    /// The size of each new chunk.
+    pub size_of: &'a mut [f64],
+    /// The entry bits of each new chunk, four words each.
+    pub bits_of: &'a mut [u64],
+    /// `(p + 32) * n` words, of which all end as zeros; `p` counts the pairs of a group and a name
+    /// among the answers.
+    pub scratch: &'a mut [u32],
+    /// How many new chunks there are.
+    pub count: &'a mut usize,
+}
+
+/// Chunks of a whole build: writes the first `n` items for modules, as many records as there are
+/// new chunks, zeros into all of `scratch`, and the count.
+pub fn chunks(tables: &ChunksTables<'_>, areas: ChunksAreas<'_>) -> u32 {
+    let ChunksTables { options, groups, .. } = tables;
+    // SAFETY: as in `similarity`; the areas are lent to this call alone.
+    unsafe {
+        sys::gentropi_chunks(
+            tables.n,
+            tables.g,
+            tables.e,
+            tables.k,
+            tables.d,
+            tables.flags.as_ptr(),
+            tables.flags.len(),
+            tables.sizes.as_ptr(),
+            tables.sizes.len(),
+            tables.orders.as_ptr(),
+            tables.orders.len(),
+            tables.shares.as_ptr(),
+            tables.shares.len(),
+            tables.tags.as_ptr(),
+            tables.tags.len(),
+            tables.bits.as_ptr(),
+            tables.bits.len(),
+            tables.bytes.as_ptr(),
+            tables.bytes.len(),
+            tables.offsets.as_ptr(),
+            tables.offsets.len(),
+            tables.first.as_ptr(),
+            tables.first.len(),
+            tables.dependency.as_ptr(),
+            tables.dependency.len(),
+            tables.next.as_ptr(),
+            tables.next.len(),
+            options.given,
+            options.min_size,
+            options.max_size,
+            options.min_module_size,
+            options.max_module_size,
+            options.min_share_count,
+            groups.given.as_ptr(),
+            groups.given.len(),
+            groups.min_size.as_ptr(),
+            groups.min_size.len(),
+            groups.max_size.as_ptr(),
+            groups.max_size.len(),
+            groups.min_module_size.as_ptr(),
+            groups.min_module_size.len(),
+            groups.max_module_size.as_ptr(),
+            groups.max_module_size.len(),
+            groups.min_share_count.as_ptr(),
+            groups.min_share_count.len(),
+            groups.tags.as_ptr(),
+            groups.tags.len(),
+            groups.priority.as_ptr(),
+            groups.priority.len(),
+            groups.threshold.as_ptr(),
+            groups.threshold.len(),
+            tables.answers.as_ptr(),
+            tables.answers.len(),
+            tables.on_entry,
+            areas.chunk_of.as_mut_ptr(),
+            areas.chunk_of.len(),
+            areas.next_of.as_mut_ptr(),
+            areas.next_of.len(),
+            areas.first_of.as_mut_ptr(),
+            areas.first_of.len(),
+            areas.group_of.as_mut_ptr(),
+            areas.group_of.len(),
+            areas.name_of.as_mut_ptr(),
+            areas.name_of.len(),
+            areas.size_of.as_mut_ptr(),
+            areas.size_of.len(),
+            areas.bits_of.as_mut_ptr(),
+            areas.bits_of.len(),
+            areas.scratch.as_mut_ptr(),
+            areas.scratch.len(),
+            areas.count,
+        )
+    }
+}

@@ -1,5 +1,7 @@
 //! A whole build, put to one copy of the crate's text and to its probed copy.
 
+use std::time::{Duration, Instant};
+
 use oxc_index::Idx;
 use rolldown_common::{Chunk, ChunkIdx, ChunkKind, ChunkReasonType, ModuleIdx};
 use rolldown_utils::BitSet;
@@ -58,6 +60,21 @@ fn run(
         }
     }
     Ok(list)
+}
+
+/// How long the text alone takes, once everything that it is handed is there.
+pub fn timed(judge: &Judge, build: &Build) -> Result<Duration, Outside> {
+    let world = World::new(build, match_groups(build, judge.callbacks))?;
+    let exec_orders: Vec<u32> = build.modules.iter().map(|module| module.order).collect();
+    let mut graph = graph_on_entry(build);
+    let mut assigned = world.module_to_assigned.clone();
+    under(judge.walk.orders(&exec_orders), || {
+        let begin = Instant::now();
+        let result = (judge.text.split)(&world, &mut graph, &mut assigned);
+        graph.sort_chunk_modules(&world.link_output, &world.options);
+        result.map(|()| begin.elapsed())
+    })
+    .map_err(|error| Outside::Broken(error.0))
 }
 
 /// A graph that holds as many chunks as there are on entry, all of them empty.

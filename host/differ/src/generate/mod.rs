@@ -17,6 +17,7 @@ pub mod merge;
 pub mod numbers;
 pub mod records;
 pub mod similarity;
+pub mod telling;
 
 use text::{Call, Question};
 

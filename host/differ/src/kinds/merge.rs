@@ -3,7 +3,10 @@
 use text::Merge;
 
 use super::Kinds;
-use crate::reference::merge::{Join, Subgroup, merge, union};
+use crate::reference::{
+    merge::{Join, Subgroup, merge, union},
+    rules::SOUND,
+};
 
 /// The subgroups before each join, and the join.
 type Step = (Vec<Option<Subgroup>>, Join);
@@ -107,7 +110,9 @@ fn of_targets(steps: &[Step], threshold: f64) -> Kinds {
         let Some(seeker) = state[join.from] else { return Vec::new() };
         let present = state.iter().enumerate().filter(|(number, _)| *number != join.from);
         let mut scores: Vec<_> = present
-            .filter_map(|(number, one)| Some((seeker.distance(&(*one)?), (*one)?.size, number)))
+            .filter_map(|(number, one)| {
+                Some((seeker.distance(&(*one)?, SOUND), (*one)?.size, number))
+            })
             .collect();
         scores.sort_unstable();
         scores

@@ -9,7 +9,8 @@ pub fn eligible(flags: u8) -> bool {
 pub fn chain(first: u32, module: &[u32], next: &[u32]) -> Vec<usize> {
     let mut modules = Vec::new();
     let mut record = first as usize;
-    while record != 0 {
+    // Only a faulty reading meets a chain that doesn't end.
+    while record != 0 && modules.len() < next.len() {
         modules.push(module[record] as usize);
         record = next[record] as usize;
     }

@@ -2,14 +2,15 @@
 
 use std::collections::{BTreeMap, BTreeSet};
 
-use text::{Chunk, ChunkList, Filter, Group, tables::BuildTables};
+use text::{Chunk, ChunkList, Filter, tables::BuildTables};
 
 use super::{
     capture::{capture, chain, eligible},
     cut::cut,
     filter, id,
-    merge::{Subgroup, merge, union},
+    merge::{Subgroup, merge_by, union},
     row,
+    rules::{Level, ReadingFault, Rules, SOUND, Setting, Use},
     trace::{Event, Trace},
 };
 
@@ -33,6 +34,7 @@ struct Item {
 /// A build at work.
 struct Build<'a> {
     tables: &'a BuildTables,
+    rules: Rules,
     eligible: Vec<bool>,
     chains: Vec<Vec<usize>>,
     trace: Trace,
@@ -40,10 +42,16 @@ struct Build<'a> {
 
 /// The chunk list of accepted tables, and what happened on the way.
 pub fn chunk_list(tables: &BuildTables) -> (ChunkList, Trace) {
+    chunk_list_by(SOUND, tables)
+}
+
+/// The same by other rules.
+pub fn chunk_list_by(rules: Rules, tables: &BuildTables) -> (ChunkList, Trace) {
     let modules = 0..tables.flags.len();
     let chain_of = |m: usize| chain(tables.first[m], &tables.dep_module, &tables.dep_next);
     let mut build = Build {
         tables,
+        rules,
         eligible: tables.flags.iter().map(|flags| eligible(*flags)).collect(),
         chains: modules.map(chain_of).collect(),
         trace: Trace::default(),
@@ -57,15 +65,17 @@ pub fn chunk_list(tables: &BuildTables) -> (ChunkList, Trace) {
 impl Build<'_> {
     /// Step 1: the set of each (group, name).
     fn sets(&mut self) -> BTreeMap<(usize, u32), Modules> {
-        let n = self.eligible.len();
+        let (n, g) = (self.eligible.len(), self.tables.groups.len());
+        let by_module = self.rules.has(ReadingFault::AnswersByModule);
         let mut sets: BTreeMap<(usize, u32), Modules> = BTreeMap::new();
-        for group in 0..self.tables.groups.len() {
+        for group in 0..g {
             for module in 0..n {
-                let answer = self.tables.answers[group * n + module];
+                let place = if by_module { module * g + group } else { group * n + module };
+                let answer = self.tables.answers[place];
                 if !self.eligible[module] || answer == 0 {
                     continue;
                 }
-                if !self.passes(group, module) {
+                if !passes(self.tables, group, module, self.rules) {
                     self.trace.events.push(Event::Filtered);
                     continue;
                 }
@@ -78,24 +88,11 @@ impl Build<'_> {
         sets
     }
 
-    /// The filter, with the limits in force: a group's option overrides the global one.
-    fn passes(&self, group: usize, module: usize) -> bool {
-        let (own, global) = (&self.tables.groups[group].options, &self.tables.options);
-        filter::passes(&Filter {
-            mask: self.tables.groups[group].mask,
-            min_module_size: own.min_module_size.or(global.min_module_size),
-            max_module_size: own.max_module_size.or(global.max_module_size),
-            min_share_count: own.min_share_count.or(global.min_share_count),
-            tags: self.tables.tags[module],
-            size: self.tables.sizes[module],
-            share_count: self.tables.shares[module],
-        })
-    }
-
     /// The capture of a matched module.
     fn captured(&mut self, group: usize, module: usize) -> Modules {
-        let own = self.tables.groups[group].options.recursive;
-        let recursive = own.or(self.tables.options.recursive).unwrap_or(true);
+        let given =
+            self.rules.yes(Setting::Recursive, &self.tables.groups[group], &self.tables.options);
+        let recursive = given.unwrap_or(self.rules.default(Setting::Recursive, true, false));
         let marks = capture(&self.eligible, &self.chains, module, recursive);
         let captured: Modules = (0..marks.len()).filter(|m| marks[*m]).collect();
         if captured.len() > 1 {
@@ -109,15 +106,14 @@ impl Build<'_> {
         let mut items = Vec::new();
         for ((group, name), modules) in sets {
             let item = Item { group, name, bits: None, modules, origin: 0, piece: false };
-            if self.tables.groups[group].entries_aware == Some(true) {
+            if self.is_entries_aware(group) {
                 items.extend(self.subgroups(item));
             } else {
                 items.push(item);
             }
         }
         // The sets come by group and name, and subgroups by number; this sort keeps that order.
-        let priority = |group: &Group| group.priority.unwrap_or(0);
-        items.sort_by_key(|item| std::cmp::Reverse(priority(&self.tables.groups[item.group])));
+        items.sort_by_key(|item| std::cmp::Reverse(self.priority(item.group)));
         for (origin, item) in items.iter_mut().enumerate() {
             item.origin = origin;
         }
@@ -130,7 +126,8 @@ impl Build<'_> {
         let mut divided: Vec<([u64; 4], Modules)> = Vec::new();
         for module in self.in_execution_order(&set.modules) {
             let bits = row(&self.tables.bits, module);
-            match divided.iter_mut().find(|(other, _)| *other == bits) {
+            let compared = |bits: [u64; 4]| self.rules.words(Use::Equality, bits);
+            match divided.iter_mut().find(|(other, _)| compared(*other) == compared(bits)) {
                 Some((_, modules)) => {
                     modules.insert(module);
                 }
@@ -145,12 +142,13 @@ impl Build<'_> {
 
     /// The merge of the subgroups of one set.
     fn merged(&mut self, set: Item, divided: Vec<([u64; 4], Modules)>) -> Vec<Item> {
-        let threshold = self.tables.groups[set.group].threshold.unwrap_or(0.0);
+        let absent = self.rules.default(Setting::Threshold, 0.0, 2.0);
+        let threshold = self.limit(set.group, Setting::Threshold).unwrap_or(absent);
         let subgroup = |(bits, modules): &([u64; 4], Modules)| Subgroup {
             size: self.total(modules),
             bits: *bits,
         };
-        let merged = merge(divided.iter().map(subgroup).collect(), threshold);
+        let merged = merge_by(self.rules, divided.iter().map(subgroup).collect(), threshold);
         self.trace.events.extend(merged.joins.iter().map(|_| Event::Joined));
         let mut items = Vec::new();
         for (number, left) in merged.left.iter().enumerate() {
@@ -185,23 +183,50 @@ impl Build<'_> {
 
     /// Whether an item is strictly below its min_size.
     fn is_dropped(&mut self, item: &Item) -> bool {
-        let own = self.tables.groups[item.group].options.min_size;
-        let min_size = own.or(self.tables.options.min_size).unwrap_or(0.0);
-        let size = self.total(&item.modules) as f64;
+        let (min_size, size) = (self.min_size(item.group), self.total(&item.modules) as f64);
         if size == min_size {
             self.trace.events.push(Event::AtMinSize);
+            return self.rules.has(ReadingFault::AtMinSizeDropped);
         }
-        size < min_size
+        let oversized = self.max_size(item.group).is_some_and(|max_size| size > max_size);
+        size < min_size && !(self.rules.has(ReadingFault::CutBeforeDropped) && oversized)
+    }
+
+    /// A limit in force: a group's option overrides the global one.
+    fn limit(&self, group: usize, setting: Setting) -> Option<f64> {
+        self.rules.double(setting, &self.tables.groups[group], &self.tables.options)
+    }
+
+    fn min_size(&self, group: usize) -> f64 {
+        let absent = self.rules.default(Setting::MinSize, 0.0, 1.0);
+        self.limit(group, Setting::MinSize).unwrap_or(absent)
+    }
+
+    fn max_size(&self, group: usize) -> Option<f64> {
+        let absent = self.rules.default(Setting::MaxSize, None, Some(0.0));
+        self.limit(group, Setting::MaxSize).or(absent)
+    }
+
+    fn is_entries_aware(&self, group: usize) -> bool {
+        let (group, global) = (&self.tables.groups[group], &self.tables.options);
+        let absent = self.rules.default(Setting::EntriesAware, false, true);
+        self.rules.yes(Setting::EntriesAware, group, global).unwrap_or(absent)
+    }
+
+    fn priority(&self, group: usize) -> u32 {
+        let (group, global) = (&self.tables.groups[group], &self.tables.options);
+        let absent = self.rules.default(Setting::Priority, 0, 1);
+        self.rules.count(Setting::Priority, group, global).unwrap_or(absent)
     }
 
     /// The left and the right piece of an item that is strictly above its max_size, if it can be
     /// cut in id order.
     fn pieces(&mut self, item: &Item) -> Option<(Item, Item)> {
-        let (own, global) = (&self.tables.groups[item.group].options, &self.tables.options);
-        let max_size = own.max_size.or(global.max_size)?;
-        let min_size = own.min_size.or(global.min_size).unwrap_or(0.0);
+        let max_size = self.max_size(item.group)?;
+        let min_size = self.min_size(item.group);
         let size = self.total(&item.modules) as f64;
-        if size <= max_size {
+        let is_cut = size == max_size && self.rules.has(ReadingFault::AtMaxSizeCut);
+        if size <= max_size && !is_cut {
             self.trace.events.extend((size == max_size).then_some(Event::AtMaxSize));
             return None;
         }
@@ -235,7 +260,7 @@ impl Build<'_> {
     /// Step 5: the chunk of an item, with its entry bits.
     fn chunk(&mut self, item: &Item, count: usize) -> Chunk {
         let own = item.modules.iter().map(|module| row(&self.tables.bits, *module));
-        let own = own.fold([0; 4], union);
+        let own = own.map(|bits| self.rules.words(Use::Union, bits)).fold([0; 4], union);
         let bits = item.bits.unwrap_or(own);
         if bits != own {
             self.trace.events.push(Event::WiderBits);
@@ -273,6 +298,24 @@ impl Build<'_> {
         modules.sort_by_key(|module| self.tables.orders[*module]);
         modules
     }
+}
+
+/// The filter, with the limits in force.
+pub fn passes(tables: &BuildTables, group: usize, module: usize, rules: Rules) -> bool {
+    let (own, global) = (&tables.groups[group], &tables.options);
+    let (min, max) = (Setting::MinModuleSize, Setting::MaxModuleSize);
+    let shares = Setting::MinShareCount;
+    let masked = !rules.has(ReadingFault::Ignored(Level::Group, Setting::Mask));
+    let filter = Filter {
+        mask: if masked { own.mask } else { 0 },
+        min_module_size: rules.double(min, own, global).or(rules.default(min, None, Some(1.0))),
+        max_module_size: rules.double(max, own, global).or(rules.default(max, None, Some(0.0))),
+        min_share_count: rules.count(shares, own, global).or(rules.default(shares, None, Some(1))),
+        tags: tables.tags[module],
+        size: tables.sizes[module],
+        share_count: tables.shares[module],
+    };
+    filter::passes(&filter, rules)
 }
 
 /// A number that fits.

@@ -1,5 +1,7 @@
 //! The merge of small subgroups.
 
+use super::rules::{Rules, SOUND, Use};
+
 /// A subgroup.
 #[derive(Debug, Clone, Copy)]
 pub struct Subgroup {
@@ -14,8 +16,9 @@ impl Subgroup {
     }
 
     /// The entries held by exactly one of the two.
-    pub fn distance(&self, other: &Self) -> u32 {
-        (0..4).map(|word| (self.bits[word] ^ other.bits[word]).count_ones()).sum()
+    pub fn distance(&self, other: &Self, rules: Rules) -> u32 {
+        let [left, right] = [self, other].map(|one| rules.words(Use::Distance, one.bits));
+        (0..4).map(|word| (left[word] ^ right[word]).count_ones()).sum()
     }
 }
 
@@ -45,10 +48,15 @@ impl Merged {
 /// While some subgroup seeks and another exists, the smallest such (then lowest number) joins the
 /// other with the least distance, then smallest size, then lowest number.
 pub fn merge(subgroups: Vec<Subgroup>, threshold: f64) -> Merged {
+    merge_by(SOUND, subgroups, threshold)
+}
+
+/// The same by other rules.
+pub fn merge_by(rules: Rules, subgroups: Vec<Subgroup>, threshold: f64) -> Merged {
     let mut merged = Merged { left: subgroups.into_iter().map(Some).collect(), joins: Vec::new() };
     if threshold > 0.0 && merged.left.len() > 1 {
-        while let Some(join) = next_join(&merged.left, threshold) {
-            apply(&mut merged.left, join);
+        while let Some(join) = next_join(rules, &merged.left, threshold) {
+            apply(rules, &mut merged.left, join);
             merged.joins.push(join);
         }
     }
@@ -56,25 +64,26 @@ pub fn merge(subgroups: Vec<Subgroup>, threshold: f64) -> Merged {
 }
 
 /// The next join, if there is one.
-pub fn next_join(left: &[Option<Subgroup>], threshold: f64) -> Option<Join> {
+pub fn next_join(rules: Rules, left: &[Option<Subgroup>], threshold: f64) -> Option<Join> {
     let present = || left.iter().enumerate().filter_map(|(number, one)| Some((number, (*one)?)));
     let (from, seeker) = present()
         .filter(|(_, subgroup)| subgroup.seeks(threshold))
         .min_by_key(|(number, subgroup)| (subgroup.size, *number))?;
-    let (to, _) = present()
-        .filter(|(number, _)| *number != from)
-        .min_by_key(|(number, subgroup)| (seeker.distance(subgroup), subgroup.size, *number))?;
+    let (to, _) =
+        present().filter(|(number, _)| *number != from).min_by_key(|(number, subgroup)| {
+            (seeker.distance(subgroup, rules), subgroup.size, *number)
+        })?;
     Some(Join { from, to })
 }
 
 /// The joined one keeps the target's number; sizes add, bits unite.
-fn apply(left: &mut [Option<Subgroup>], join: Join) {
+fn apply(rules: Rules, left: &mut [Option<Subgroup>], join: Join) {
     let Some(gone) = left[join.from].take() else {
         return;
     };
     if let Some(target) = &mut left[join.to] {
         target.size += gone.size;
-        target.bits = union(target.bits, gone.bits);
+        target.bits = union(target.bits, rules.words(Use::Joined, gone.bits));
     }
 }
 

@@ -3,16 +3,22 @@
 //! It is written from the paper and not from the crate, for small inputs and without any care
 //! for speed, so that it shows where the paper and the crate disagree.
 
+pub mod areas;
 pub mod capture;
 pub mod chunks;
 pub mod cut;
+pub mod fault_list;
 pub mod filter;
 pub mod merge;
 pub mod refusals;
+pub mod rules;
 pub mod similarity;
 pub mod trace;
 
-use text::{Answer, CutAnswer, Question, tables};
+use text::{Answer, ChunkList, Chunks, CutAnswer, Question, tables};
+
+use areas::Areas;
+use rules::{Rules, SOUND};
 
 /// The answer, or the number of the refusal.
 pub fn answer(question: &Question) -> Result<Answer, u32> {
@@ -23,7 +29,7 @@ pub fn answer(question: &Question) -> Result<Answer, u32> {
         }
         Question::Filter(filter) => {
             refuse(refusals::filter(filter))?;
-            Ok(Answer::Filter(filter::passes(filter)))
+            Ok(Answer::Filter(filter::passes(filter, SOUND)))
         }
         Question::Cut(cut) => {
             let tables = tables::of_cut(cut);
@@ -40,12 +46,29 @@ pub fn answer(question: &Question) -> Result<Answer, u32> {
             refuse(refusals::merge(&tables))?;
             Ok(Answer::Merge(merge_answer(&tables)))
         }
-        Question::Chunks(chunks) => {
-            let tables = tables::of_chunks(chunks);
-            refuse(refusals::chunks(&tables))?;
-            Ok(Answer::Chunks(chunks::chunk_list(&tables).0))
-        }
+        Question::Chunks(chunks) => outcome(&tables::of_chunks(chunks), SOUND).map(Answer::Chunks),
     }
+}
+
+/// What comes of a whole build: the chunk list or the number of the refusal, and the lent areas.
+#[derive(Debug, Clone, PartialEq)]
+pub struct BuildResult {
+    pub outcome: Result<ChunkList, u32>,
+    pub areas: Areas,
+}
+
+/// A whole build by these rules.
+pub fn build(chunks: &Chunks, rules: Rules) -> BuildResult {
+    let tables = tables::of_chunks(chunks);
+    let outcome = outcome(&tables, rules);
+    let areas = areas::after(&tables, outcome.as_ref().map_err(|number| *number), rules);
+    BuildResult { outcome, areas }
+}
+
+/// The chunk list of a build by these rules, or the number of the refusal.
+fn outcome(tables: &tables::BuildTables, rules: Rules) -> Result<ChunkList, u32> {
+    refuse(refusals::chunks(tables, rules))?;
+    Ok(chunks::chunk_list_by(rules, tables).0)
 }
 
 /// The refusal as an error.

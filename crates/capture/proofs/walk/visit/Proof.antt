@@ -10,36 +10,34 @@ use borrow.Author.Needs.{needs}
 use Rattle.capture.proofs.walk.visit.Statement.{statement}
 use Rattle.capture.proofs.walk.visit.Tie as tie
 
-cast-at : tie.Need-cast-at
-cast-at c = search needs
-
-shared-slice-read-is-eligible : tie.Need-shared-slice-read-is-eligible
-shared-slice-read-is-eligible c = search needs
-
-is-eligible-requires : tie.Need-is-eligible-requires
-is-eligible-requires c κs = search needs
+is-eligible-at-requires : tie.Need-is-eligible-at-requires
+is-eligible-at-requires c κs = search needs
 
 returns : tie.Need-returns
 returns c =
-    let s = c .before .before .before .before .before .before .before .args in
-    visit-ineligible (s .flags .now) _ (s .named .0) (sym (c .before .is-eligible .ensures) ∙ not-true (c .before .is-eligible .result) (c .if1 .taken))
+    let s = c .before .before .before .before .before .args in
+    visit-ineligible (s .flags .now) _ (s .named .0) (sym (c .before .is-eligible-at .ensures) ∙ not-true (c .before .is-eligible-at .result) (c .if1 .taken))
+
+cast-at : tie.Need-cast-at
+cast-at c = search needs
 
 slice-read-if2 : tie.Need-slice-read-if2
 slice-read-if2 c = search needs
 
 returns-2 : tie.Need-returns-2
 returns-2 c =
-    let s = c .before .before .before .before .before .before .before .before .before .args in
+    let s = c .before .before .before .before .before .before .before .before .args in
     visit-marked (s .flags .now) _ (s .named .0) (c .if2 .taken)
 
 slice-write-marks : tie.Need-slice-write-marks
 slice-write-marks c = search needs
 
+abbrev entry : tie.Else2 → tie.Start
+entry c = c .before .before .before .before .before .before .before .before
+
 -- a module that isn't marked has room on the list
-has-room : (c : tie.Else2) → c .before .before .before .before .before .before .before .before .before .args .tail < length (c .before .before .before .before .before .before .before .before .before .args .queue .now)
-has-room c =
-    let s = c .before .before .before .before .before .before .before .before .before in
-    state-room (s .args .flags .now) _ _ (s .pre .state) (s .args .named .0) (s .pre .module-in) (c .if2 .left)
+has-room : (c : tie.Else2) → entry c .args .tail < length (entry c .args .queue .now)
+has-room c = state-room (entry c .args .flags .now) _ _ (entry c .pre .state) (entry c .args .named .0) (entry c .pre .module-in) (c .if2 .left)
 
 mul-queue : tie.Need-mul-queue
 mul-queue c = omega (arith, has-room c)
@@ -58,17 +56,17 @@ same-length-2 c = search needs
 
 returns-3 : tie.Need-returns-3
 returns-3 c =
-    let s = c .before .before .before .before .before .before .before .before .before .args in
-    visit-new (s .flags .now) _ (s .named .0) (sym (c .before .before .before .is-eligible .ensures) ∙ not-false (c .before .before .before .is-eligible .result) (c .before .before .if1 .left)) (c .if2 .left)
+    let is = c .before .before .before .before .is-eligible-at in
+    let el = sym (is .ensures) ∙ not-false (is .result) (c .before .before .before .if1 .left) in
+    visit-new (entry c .args .flags .now) _ (entry c .args .named .0) el (c .if2 .left)
 
 pub visit-spec : {M : Type 1} → statement M
 visit-spec =
     tie.close
     (tie.spec
-    cast-at
-    shared-slice-read-is-eligible
-    is-eligible-requires
+    is-eligible-at-requires
     returns
+    cast-at
     slice-read-if2
     returns-2
     slice-write-marks

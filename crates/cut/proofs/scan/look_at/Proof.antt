@@ -30,21 +30,11 @@ mul-before c = search needs
 shared-slice-read-before : tie.Need-shared-slice-read-before
 shared-slice-read-before c = search needs
 
-cast-before : tie.Need-cast-before
-cast-before c =
-    let a = c .before .before .before .before .before .before .before .before .before .before .args in
-    omega (arith, c .shared-slice-known4 .given (a .i - 1))
-
 mul-after : tie.Need-mul-after
 mul-after c = search needs
 
 shared-slice-read-after : tie.Need-shared-slice-read-after
 shared-slice-read-after c = search needs
-
-cast-after : tie.Need-cast-after
-cast-after c =
-    let a = c .before .before .before .before .before .before .before .before .before .before .before .args in
-    omega (arith, c .shared-slice-known5 .given (a .i))
 
 id-at-requires : tie.Need-id-at-requires
 id-at-requires c κs =
@@ -87,10 +77,8 @@ look-at-spec =
     sub-before
     mul-before
     shared-slice-read-before
-    cast-before
     mul-after
     shared-slice-read-after
-    cast-after
     id-at-requires
     id-at-requires-2
     similarity-within-requires

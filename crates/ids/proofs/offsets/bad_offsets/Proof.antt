@@ -11,10 +11,10 @@ use Rattle.ids.proofs.offsets.bad_offsets.Statement.{statement}
 use Rattle.ids.proofs.offsets.bad_offsets.Tie as tie
 
 abbrev Inv-loop : tie.InvT-loop
-Inv-loop end offsets k₀ k = (k ≤ length offsets) × (badOffsets end (drop k offsets) ≡ badOffsets end offsets)
+Inv-loop longest end offsets k₀ k = (k ≤ length offsets) × (badOffsets longest end (drop k offsets) ≡ badOffsets longest end offsets)
 
 abbrev μ-loop : tie.MeasureT-loop
-μ-loop end offsets k₀ k = length offsets - k
+μ-loop longest end offsets k₀ k = length offsets - k
 
 loop-holds : tie.Need-loop-holds Inv-loop μ-loop
 loop-holds c = (omega arith, refl)
@@ -32,7 +32,7 @@ returns : tie.Need-returns Inv-loop μ-loop
 returns c =
     let a = c .before .before .before .before .before .args in
     let s = c .before .before .before .loop in
-    sym (past-end (a .end) (a .offsets .now) (s .k) (omega arith) (c .if1 .taken)) ∙ s .inv .1
+    sym (past-end (a .longest) (a .end) (a .offsets .now) (s .k) (omega arith) (c .if1 .taken)) ∙ s .inv .1
 
 add-k : tie.Need-add-k Inv-loop μ-loop
 add-k c = search needs
@@ -53,7 +53,7 @@ returns-2 : tie.Need-returns-2 Inv-loop μ-loop
 returns-2 c =
     let a = c .before .before .before .before .before .before .before .before .before .args in
     let s = c .before .before .before .before .before .before .before .loop in
-    sym (pair (a .end) (a .offsets .now) (s .k) true (omega arith) (omega arith) (sym (c .before .bad-pair .ensures) ∙ c .if3 .taken)) ∙ s .inv .1
+    sym (pair (a .longest) (a .end) (a .offsets .now) (s .k) true (omega arith) (omega arith) (sym (c .before .bad-pair .ensures) ∙ c .if3 .taken)) ∙ s .inv .1
 
 loop-less : tie.Need-loop-less Inv-loop μ-loop
 loop-less c = search needs
@@ -62,7 +62,8 @@ loop-again : tie.Need-loop-again Inv-loop μ-loop
 loop-again c =
     let a = c .before .before .before .before .before .before .before .before .before .args in
     let s = c .before .before .before .before .before .before .before .loop in
-    (omega arith, sym (pair (a .end) (a .offsets .now) (s .k) false (omega arith) (omega arith) (sym (c .before .bad-pair .ensures) ∙ c .if3 .left)) ∙ s .inv .1)
+    let good = sym (c .before .bad-pair .ensures) ∙ c .if3 .left in
+    (omega arith, sym (pair (a .longest) (a .end) (a .offsets .now) (s .k) false (omega arith) (omega arith) good) ∙ s .inv .1)
 
 loop-less-2 : tie.Need-loop-less-2 Inv-loop μ-loop
 loop-less-2 c = search needs
@@ -71,13 +72,13 @@ loop-again-2 : tie.Need-loop-again-2 Inv-loop μ-loop
 loop-again-2 c =
     let a = c .before .before .before .before .before .before .args in
     let s = c .before .before .before .before .loop in
-    (omega arith, sym (last-offset (a .end) (a .offsets .now) (s .k) (omega arith) (c .if2 .left) (c .before .if1 .left)) ∙ s .inv .1)
+    (omega arith, sym (last-offset (a .longest) (a .end) (a .offsets .now) (s .k) (omega arith) (c .if2 .left) (c .before .if1 .left)) ∙ s .inv .1)
 
 returns-3 : tie.Need-returns-3 Inv-loop μ-loop
 returns-3 c =
     let a = c .before .before .before .args in
     let s = c .before .loop in
-    sym (no-offset (a .end) (a .offsets .now) (s .k) (c .loop-test .left)) ∙ s .inv .1
+    sym (no-offset (a .longest) (a .end) (a .offsets .now) (s .k) (c .loop-test .left)) ∙ s .inv .1
 
 pub bad-offsets-spec : {M : Type 1} → statement M
 bad-offsets-spec =

@@ -7,6 +7,9 @@ use Rattle.ids.proofs.IdParts.{part-slice}
 use Rattle.ids.proofs.parts.id_at.Statement.{statement}
 use Rattle.ids.proofs.parts.id_at.Tie as tie
 
+cast-at : tie.Need-cast-at
+cast-at c = search needs
+
 mul-start : tie.Need-mul-start
 mul-start c = search needs
 
@@ -40,13 +43,14 @@ part-result-end c = search needs
 returns : tie.Need-returns
 unfolding idAt
 returns c =
-    let a = c .before .before .before .args in
-    part-slice (getD (a .offsets .now) (a .k) 0) (getD (a .offsets .now) (a .k + 1) 0) (a .bytes .now)
+    let a = c .before .before .before .before .args in
+    part-slice (getD (a .offsets .now) (a .m .0) 0) (getD (a .offsets .now) (a .m .0 + 1) 0) (a .bytes .now)
 
 pub id-at-spec : {M : Type 1} → statement M
 id-at-spec =
     tie.close
     (tie.spec
+    cast-at
     mul-start
     shared-slice-read-start
     cast-start

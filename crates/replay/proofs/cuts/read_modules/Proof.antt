@@ -14,6 +14,9 @@ abbrev μ-loop : tie.MeasureT-loop
 loop-holds : tie.Need-loop-holds Inv-loop μ-loop
 loop-holds c = search needs
 
+cast-m : tie.Need-cast-m Inv-loop μ-loop
+cast-m c = search needs
+
 read-module-requires : tie.Need-read-module-requires Inv-loop μ-loop
 read-module-requires c κs = search needs
 
@@ -32,4 +35,4 @@ returns c = search needs
 pub read-modules-spec : {M : Type 1} → statement M
 read-modules-spec =
     tie.close
-    (tie.spec Inv-loop μ-loop loop-holds read-module-requires add-i loop-less loop-again returns)
+    (tie.spec Inv-loop μ-loop loop-holds cast-m read-module-requires add-i loop-less loop-again returns)

@@ -16,6 +16,9 @@ loop-holds c = search needs
 add-i : tie.Need-add-i Inv-loop μ-loop
 add-i c = search needs
 
+cast-r : tie.Need-cast-r Inv-loop μ-loop
+cast-r c = search needs
+
 read-record-requires : tie.Need-read-record-requires Inv-loop μ-loop
 read-record-requires c κs = search needs
 
@@ -31,4 +34,4 @@ returns c = search needs
 pub read-records-spec : {M : Type 1} → statement M
 read-records-spec =
     tie.close
-    (tie.spec Inv-loop μ-loop loop-holds add-i read-record-requires loop-less loop-again returns)
+    (tie.spec Inv-loop μ-loop loop-holds add-i cast-r read-record-requires loop-less loop-again returns)

@@ -1,0 +1,8 @@
+-- The laws of the definitions of specs/.
+pub mod Stores
+pub mod OneMore
+pub mod Chunk
+pub mod Turn
+pub mod Numbers
+pub mod RecordsRead
+pub mod Chunks

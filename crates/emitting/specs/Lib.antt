@@ -1,0 +1,3 @@
+-- Chunks that are emitted.
+pub mod Emitted
+pub mod Areas

@@ -1,0 +1,2 @@
+-- What the turns of an entries-aware set ask.
+pub mod Divided

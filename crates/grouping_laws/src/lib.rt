@@ -1,0 +1,1 @@
+// Laws of the definition of Chunks, the renumbering rule among them. This crate has no code.

@@ -1,0 +1,3 @@
+-- The groups of a build on their turns.
+pub mod Order
+pub mod Turn

@@ -1,0 +1,4 @@
+// The groups turned into chunks, in the order of their priority.
+pub mod convert;
+pub mod settings;
+pub mod turns;

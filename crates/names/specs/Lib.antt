@@ -1,0 +1,2 @@
+-- The sets of one group on their turns.
+pub mod Turn

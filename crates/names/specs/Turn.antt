@@ -1,0 +1,44 @@
+-- The sets of one group on their turns, name by name.
+use Prim.Native.Nat.{ℕ, _*_, _≤_, _<_}
+use mathlib.Core.List.{List, foldl}
+use mathlib.Core.Path.{_≡_}
+use lib.ListN.{length}
+use Rattle.options.specs.declared.Settings.{Settings}
+use Rattle.grouping.specs.Given.{Given}
+use Rattle.grouping.specs.Settings.{settingsOf}
+use Rattle.grouping.specs.Tree.{treeOf}
+use Rattle.settling.specs.Traversal.{namesOf, afterName}
+use Rattle.emitting.specs.Emitted.{Work}
+use Rattle.items.specs.Turn.{Tables}
+use Rattle.sets.specs.OfBuild.{matchedOf}
+use Rattle.running.specs.Fits.{ItemFits, Walking, WalkFits}
+use Rattle.running.specs.State.{Advance}
+use Rattle.running.specs.Turns.{Turning}
+
+-- a group of a build, and its matched modules by name
+pub record GroupFits (b : Given) (w : Walking) (settings : Settings) (group : ℕ) (matched : List ℕ) : Type 0 where
+  pub walks : WalkFits b w
+  pub inside : group < b .variant .g
+  pub settings-are : settings ≡ settingsOf b group
+  pub matched-are : matched ≡ matchedOf b group
+
+-- a group on its turn
+pub record NamesTurning (t : Tables) (w : Walking) (bits : List ℕ) (settings : Settings) (group : ℕ) (matched : List ℕ) (number at : ℕ) (now : Work)
+    : Type 0 where
+  pub turning : Turning t bits number at now
+  pub fits : GroupFits (turning .b) w settings group matched
+
+-- the work tables are as long as the modules need
+pub record NamesRoom (n : ℕ) (flags order marks set scratch : List ℕ) : Type 0 where
+  pub few : n ≤ 4096
+  pub modules : length flags ≡ n
+  pub mark-bytes : length marks ≡ n
+  pub set-room : n ≤ length set
+  pub scratch-room : 3 * n ≤ length scratch
+
+-- the sets of the group's names have had their turns
+pub record NamesTurned (t : Tables) (w : Walking) (bits : List ℕ) (settings : Settings) (group : ℕ) (matched : List ℕ) (number at count : ℕ)
+    (entry exit : Work) : Type 0 where
+  pub advance : (b : Given) (start : ℕ) → ItemFits b t bits → GroupFits b w settings group matched
+      → Advance b start
+      (λ chunks. foldl (afterName settings group (treeOf b)) chunks (namesOf (b .shared .k) settings group (treeOf b))) number at count entry exit

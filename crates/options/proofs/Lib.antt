@@ -1,0 +1,2 @@
+-- Laws that the functions over options cite.
+pub mod GroupRead

@@ -1,0 +1,47 @@
+-- The pieces that modules in id order are cut into, in tables: where each begins, and its size.
+use Prim.Native.Nat.{ℕ, _-_, _≤_}
+use mathlib.Core.Bool.{cond}
+use mathlib.Core.List.{List, [], _∷_, map}
+use mathlib.Core.Path.{_≡_}
+use lib.Ieee.{Float, lt}
+use lib.ListN.{length, getD, take}
+use Rattle.whole.specs.Double.{sumF64}
+use Rattle.ids.specs.Parts.{idAt}
+use Rattle.cut.specs.Cut.{Chosen, none, cutOf}
+use Rattle.cut.specs.Order.{sizesIn, idsIn, Cuttable}
+use Rattle.settling.specs.Pieces.{Cutting}
+
+-- modules are cut by what the tables say of them
+abbrev pub cuttingOf : List ℕ → List ℕ → List ℕ → Float → Float → Cutting
+cuttingOf bytes offsets sizes minimum maximum =
+    record { id = idAt bytes offsets; size = λ m. getD sizes m 0; minimum = minimum; maximum = maximum }
+
+-- the cut of modules of a total size: none where they are within the maximum
+abbrev pub cutWithin : List ℕ → List ℕ → List ℕ → List ℕ → Float → Float → Float → Chosen
+cutWithin bytes offsets sizes order total minimum maximum =
+    cond (lt maximum total) (cutOf (idsIn bytes offsets order) (sizesIn sizes order) minimum maximum) none
+
+-- where the pieces begin, which lie from the end of a list to its start
+unfoldable pub startsFrom : ℕ → List (List ℕ) → List ℕ
+startsFrom end [] = []
+startsFrom end (p ∷ ps) = (end - length p) ∷ startsFrom (end - length p) ps
+
+-- the size of each piece
+unfoldable pub sizesOf : List ℕ → List (List ℕ) → List Float
+unfolding sumF64
+sizesOf sizes ps = map (λ p. sumF64 (sizesIn sizes p)) ps
+
+-- what is asked of the tables: the modules can be cut, their total size is handed over, and there is room for as many pieces as modules
+pub record Pending (bytes offsets sizes order : List ℕ) (total : Float) (starts : List ℕ) (totals : List Float) : Type 0 where
+  pub tables : Cuttable bytes offsets sizes order
+  pub few : length order ≤ 4096
+  pub some : 1 ≤ length order
+  pub whole : total ≡ sumF64 (sizesIn sizes order)
+  pub starts-room : length order ≤ length starts
+  pub totals-room : length order ≤ length totals
+
+-- the pieces of modules in id order, in the first `count` entries of the two areas; what lies past them is free
+pub record Cutted (ps : List (List ℕ)) (order sizes : List ℕ) (count : ℕ) (starts : List ℕ) (totals : List Float) : Type 0 where
+  pub number : count ≡ length ps
+  pub begins : take count starts ≡ startsFrom (length order) ps
+  pub sized : take count totals ≡ sizesOf sizes ps

@@ -1,0 +1,3 @@
+// An item above its maximum: its modules in id order, and the pieces that they are cut into.
+pub mod order;
+pub mod pieces;

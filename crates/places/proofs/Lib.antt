@@ -1,0 +1,14 @@
+-- Laws of the tables in both orders.
+pub mod Keeping
+pub mod TwoOf
+pub mod Packing
+pub mod SameIds
+pub mod Ranking
+pub mod PutByOrder
+pub mod InIdOrder
+pub mod SharedByTwo
+pub mod PlacesByOrder
+pub mod RankOrder
+pub mod ByRank
+pub mod Handing
+pub mod OfBuild

@@ -1,0 +1,42 @@
+-- The loop that gathers a group's modules: what one place more adds.
+use Prim.Native.Nat.{ℕ, _+_, _≤_}
+use mathlib.Core.Bool.{Bool, true, false}
+use mathlib.Core.List.{List, [], _∷_, _++_, map}
+use mathlib.Core.Path.{_≡_, refl, ap, _∙_}
+use borrow.Author.Tests.{leb-true}
+use lib.Dec.{leb}
+use lib.ListN.{length, getD}
+use Rattle.lists.specs.Keep.{keep}
+use Rattle.lists.specs.Range.{range}
+use Rattle.lists.proofs.Below.{both}
+use Rattle.lists.proofs.KeepLoop.{keep-range-in, keep-range-out}
+use Rattle.sets.specs.Matched.{Matching, takes, takesModule, keyAt, takingPart, keysOf}
+use Rattle.sets.proofs.Writing.{map-snoc}
+
+-- those of the first i places
+unfoldable pub keysBelow : Matching → List ℕ → ℕ → List ℕ
+keysBelow g order i = map (keyAt g order) (keep (λ p. takesModule g (getD order p 0)) (range 0 i))
+
+-- who takes part has a name
+pub takes-named : (g : Matching) (m : ℕ) → takesModule g m ≡ true → 2 ≤ getD (g .answers) m 0
+unfolding takesModule takes
+takes-named g m e = leb-true 2 (getD (g .answers) m 0) (both (leb 2 (getD (g .answers) m 0)) _ e .0)
+
+pub keys-none : (g : Matching) (order : List ℕ) → keysBelow g order 0 ≡ []
+unfolding keysBelow keep range
+keys-none g order = refl
+
+module _ (g : Matching) (order : List ℕ) (i : ℕ) where
+  pub keys-in : takesModule g (getD order i 0) ≡ true → keysBelow g order (i + 1) ≡ keysBelow g order i ++ (keyAt g order i ∷ [])
+  unfolding keysBelow
+  keys-in e =
+      let p : ℕ → Bool = λ k. takesModule g (getD order k 0) in
+      ap (map (keyAt g order)) (keep-range-in p i e) ∙ map-snoc (keyAt g order) (keep p (range 0 i)) i
+
+  pub keys-out : takesModule g (getD order i 0) ≡ false → keysBelow g order (i + 1) ≡ keysBelow g order i
+  unfolding keysBelow
+  keys-out e = ap (map (keyAt g order)) (keep-range-out (λ k. takesModule g (getD order k 0)) i e)
+
+  pub keys-all : i ≡ length order → keysBelow g order i ≡ keysOf g order
+  unfolding keysBelow keysOf takingPart
+  keys-all e = ap (λ (n : ℕ). map (keyAt g order) (keep (λ p. takesModule g (getD order p 0)) (range 0 n))) e

@@ -1,0 +1,12 @@
+-- The laws of the definitions of specs/.
+pub mod Writing
+pub mod Gathering
+pub mod Marking
+pub mod Starts
+pub mod Building
+pub mod MatchedKeys
+pub mod TakesAt
+pub mod FromPassed
+pub mod NamesMatched
+pub mod BuiltSets
+pub mod Ready

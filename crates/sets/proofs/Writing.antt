@@ -1,0 +1,63 @@
+-- Loops that write from the front of an area on: a list that grows by one element a turn or stays, and an area that is written whole.
+use Prim.Native.Nat.{ℕ, _+_, _≤_, _<_}
+use mathlib.Core.List.{List, [], _∷_, _++_, map, map-append}
+use mathlib.Core.Path.{_≡_, refl, sym, ap, _∙_, subst, subst₂}
+use native.Mathlib.Numerals.{add-one}
+use native.Mathlib.Omega.{arith}
+use lib.ListN.{length, getD, take, set, length-set, length-append}
+use lib.Seq.{take-suc, take-suc-set, take-all}
+use Rattle.sets.specs.Area.{Holds}
+
+-- of the first i elements the area holds what was to be written
+pub record Writing (list : List ℕ) (i count : ℕ) (area₀ area : List ℕ) : Type 0 where
+  pub holds : Holds list count area
+  pub few : count ≤ i
+  pub same-length : length area ≡ length area₀
+
+pub none-written : (area : List ℕ) → Writing [] 0 0 area area
+none-written area = record { holds = record { number = refl; entries = refl }; few = omega arith; same-length = refl }
+
+pub holds-more : {list : List ℕ} {count : ℕ} {area : List ℕ} (x : ℕ) → Holds list count area → count < length area
+    → Holds (list ++ (x ∷ [])) (count + 1) (set area count x)
+holds-more {list} {count} {area} x h b = record {
+  number = omega (arith, h .number, length-append list (x ∷ []));
+  entries = rw (add-one count, take-suc-set area count x b, h .entries);
+}
+
+module _ {list : List ℕ} {i count : ℕ} {area₀ area : List ℕ} (w : Writing list i count area₀ area) where
+  -- one element is written
+  pub one-written : {more : List ℕ} (x : ℕ) → more ≡ list ++ (x ∷ []) → i < length area₀ → Writing more (i + 1) (count + 1) area₀ (set area count x)
+  one-written {more} x e h =
+      record {
+        holds = subst (λ (l : List ℕ). Holds l (count + 1) (set area count x)) (sym e) (holds-more x (w .holds) (omega (arith, w .few, w .same-length)));
+        few = omega (arith, w .few);
+        same-length = rw length-set (w .same-length);
+      }
+
+  -- an element is passed over
+  pub none-more : {same : List ℕ} → same ≡ list → Writing same (i + 1) count area₀ area
+  none-more {same} e =
+      record { holds = subst (λ (l : List ℕ). Holds l count area) (sym e) (w .holds); few = omega (arith, w .few); same-length = w .same-length }
+
+  pub has-room : i < length area₀ → count < length area
+  has-room h = omega (arith, w .few, w .same-length)
+
+-- two ways through a turn, which meet with other names for the count and the area
+pub one-of : {more : List ℕ} {i k count : ℕ} {area₀ area′ area : List ℕ} → area ≡ area′ → count ≡ k → Writing more i k area₀ area′
+    → Writing more i count area₀ area
+one-of {more} {i} {area₀ = area₀} a n w = subst₂ (λ (n : ℕ) (l : List ℕ). Writing more i n area₀ l) (sym n) (sym a) w
+
+-- an element more of an image
+pub map-snoc : {A B : Type 0} (f : A → B) (l : List A) (x : A) → map f (l ++ (x ∷ [])) ≡ map f l ++ (f x ∷ [])
+map-snoc f l x = map-append f l (x ∷ [])
+
+pub map-take-more : (f : ℕ → ℕ) (l : List ℕ) (i : ℕ) → i < length l → map f (take (i + 1) l) ≡ map f (take i l) ++ (f (getD l i 0) ∷ [])
+map-take-more f l i h =
+    let e : take (i + 1) l ≡ take i l ++ (getD l i 0 ∷ []) = rw (add-one i) (take-suc l i 0 h) in
+    ap (map f) e ∙ map-snoc f (take i l) (getD l i 0)
+
+-- an area that is written to its end is the image
+pub all-written : (f : ℕ → ℕ) (l : List ℕ) {area : List ℕ} (i : ℕ) → Holds (map f (take i l)) i area → length l ≤ i → length area ≡ length l → area ≡ map f l
+all-written f l {area} i h b e =
+    let c : length area ≤ i = omega arith in
+    sym (take-all i area c) ∙ h .entries ∙ ap (map f) (take-all i l b)

@@ -1,0 +1,29 @@
+-- What several modules capture together.
+use Prim.Native.Nat.{ℕ, _-_, _≤_, _<_}
+use mathlib.Core.List.{List, List·Memᴰ}
+use mathlib.Core.Path.{_≡_}
+use lib.ListN.{length, getD}
+use Rattle.capture.specs.Reached.{Reached, Marks}
+use Rattle.capture.specs.Capture.{Eligible, Names}
+use Rattle.capture.specs.Walk.{WalkTables, WalkState}
+
+-- each start is one of the n modules
+abbrev pub StartsIn : List ℕ → ℕ → Type 0
+StartsIn starts n = (i : ℕ) → i < length starts → getD starts i 0 < n
+
+-- nothing is on the list yet
+pub record StartsReady (flags starts marks queue : List ℕ) : Type 0 where
+  pub state : WalkState flags (length flags) (record { marks = marks; queue = queue; tail = 0 })
+  pub starts-in : StartsIn starts (length flags)
+
+-- what a walk from the starts needs
+pub record AllReady (flags first dependency next starts marks queue : List ℕ) : Type 0 where
+  pub tables : WalkTables flags first dependency next (length flags) (length next - 1)
+  pub starts-in : StartsIn starts (length flags)
+  pub mark-bytes : length marks ≡ length flags
+  pub room : length flags ≤ length queue
+
+-- the captures of the starts, taken together
+abbrev pub AllCaptured : List ℕ → List ℕ → List ℕ → List ℕ → List ℕ → List ℕ → Type 0
+AllCaptured flags first dependency next starts marks =
+    Marks (Reached (Eligible flags) (Names first dependency next (length next - 1)) (λ m. List·Memᴰ m starts)) (length flags) marks

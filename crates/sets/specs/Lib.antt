@@ -1,0 +1,6 @@
+-- Step 1 for one group: the modules that take part, by name, and the set of each name in execution order.
+pub mod Area
+pub mod Matched
+pub mod Captured
+pub mod Built
+pub mod OfBuild

@@ -1,0 +1,45 @@
+// What several modules capture together: a walk that starts with all of them on its list.
+use capture::clear::clear_bytes;
+use capture::walk::visit;
+use capture::walk::walk;
+use index::ModuleIdx;
+ghost use mathlib.Core.List.{foldl};
+ghost use mathlib.Core.Path.{_≡_};
+ghost use Prim.Native.Nat.{_-_};
+ghost use lib.ListN.{length};
+ghost use Rattle.capture.specs.Walk.{visited};
+ghost use Rattle.sets.specs.Captured.{StartsReady, AllReady, AllCaptured};
+
+// Marks each start and puts it on the list. Answers how many are on it.
+fn mark_starts(flags: &[u8], starts: &[u32], marks: &mut [u8], queue: &mut [u32]) -> usize
+    requires { ⌜ StartsReady (now flags) (now starts) (now marks) (now queue) ⌝ }
+    ensures { λ r. ⌜ foldl (visited (now (flags .entry))) (record { marks = now (marks .entry); queue = now (queue .entry); tail = 0 })
+        (now (starts .entry)) ≡ record { marks = now (marks .exit); queue = now (queue .exit); tail = r } ⌝ }
+{
+    let mut tail = 0;
+    let mut i = 0;
+    while i < starts.len() {
+        tail = visit(flags, marks, queue, tail, ModuleIdx(starts[i]));
+        i = i + 1;
+    }
+    tail
+}
+
+// Marks all that is reached from the starts.
+pub fn capture_all(
+    flags: &[u8],
+    first: &[u32],
+    dependency: &[u32],
+    next: &[u32],
+    starts: &[u32],
+    marks: &mut [u8],
+    queue: &mut [u32],
+)
+    requires { ⌜ AllReady (now flags) (now first) (now dependency) (now next) (now starts) (now marks) (now queue) ⌝ }
+    ensures { λ _. ⌜ AllCaptured (now (flags .entry)) (now (first .entry)) (now (dependency .entry)) (now (next .entry))
+        (now (starts .entry)) (now (marks .exit)) ⌝ }
+{
+    clear_bytes(marks);
+    let tail = mark_starts(flags, starts, marks, queue);
+    walk(flags, first, dependency, next, marks, queue, tail);
+}

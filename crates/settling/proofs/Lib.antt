@@ -1,0 +1,23 @@
+-- The laws between the definition of the chunk list and a run.
+pub mod Taken
+pub mod EndsHold
+pub mod TurnsOfItem
+pub mod ChunksSettled
+pub mod SettledChunks
+pub mod SubgroupsAscend
+pub mod ItemOrder
+pub mod WorkTraversal
+pub mod ByGroups
+pub mod LoopSteps
+pub mod Parts
+pub mod SideOrder
+pub mod SideSize
+pub mod SideUnion
+pub mod PieceBound
+pub mod PieceParts
+pub mod PieceMap
+pub mod Ends
+pub mod EndsPieces
+pub mod PieceStack
+pub mod RangeStack
+pub mod RangePieces

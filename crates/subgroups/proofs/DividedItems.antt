@@ -1,0 +1,97 @@
+-- The items of an entries-aware set are the runs of its divided positions: the number of each, its bits and its modules.
+use Prim.Native.Nat.{ℕ, _*_, _^_, _<_, _≤_}
+use mathlib.Core.Bool.{Bool}
+use mathlib.Core.List.{List, map, map-map, List·Memᴰ}
+use mathlib.Core.Option.{some}
+use mathlib.Core.Path.{_≡_, sym, ap, _∙_, subst}
+use native.Mathlib.Omega.{arith}
+use lib.Dec.{eqb}
+use lib.ListN.{length, getD, take, length-map}
+use Rattle.lists.specs.Sum.{sum}
+use Rattle.lists.proofs.KeepTests.{keep-same, keep-map}
+use Rattle.lists.proofs.Members.{map-same}
+use Rattle.bitset.specs.Entries.{rowOf}
+use Rattle.bitset.specs.declared.entries.BitSet.{BitSet}
+use Rattle.merge.specs.Subgroup.{Subgroup}
+use Rattle.merge.specs.Merge.{Merging}
+use Rattle.merge.specs.Tables.{subgroupAt}
+use Rattle.options.specs.declared.Settings.{Settings}
+use Rattle.grouping.specs.Given.{Given}
+use Rattle.grouping.specs.Tree.{Tree, placesOf, treeOf, memberAt}
+use Rattle.grouping.specs.Item.{Item}
+use Rattle.grouping.specs.Subgroups.{kindNumber, mergedSubgroups, placesEnded, itemOfSubgroup, kindsAt, dividedItems}
+use Rattle.settling.specs.Modules.{moduleAt, modulesAt}
+use Rattle.subgroups.specs.Kinds.{kindsIn, kindOfModule, sizesOf}
+use Rattle.subgroups.specs.Merged.{mergedKinds, Processed}
+use Rattle.subgroups.specs.Items.{subgroupsIn, modulesIn, itemNumbered}
+use Rattle.subgroups.proofs.Merging.{row-take}
+use Rattle.subgroups.proofs.ByPlace.{bits-at, kinds-are, merged-is}
+use Rattle.subgroups.proofs.Numbered.{there-are, still-below, runs-are}
+use Rattle.subgroups.proofs.RunModules.{modules-are}
+
+module _ (b : Given) (places : List ℕ) (inside : (p : ℕ) → List·Memᴰ p places → p < length (placesOf b)) (few : length places ≤ 4096)
+    (r : Settings) (exact : sum (sizesOf (b .shared .sizes) (modulesAt b places)) ≤ 2 ^ 53)
+    (count : ℕ) (finals kind-sizes kind-bits order : List ℕ)
+    (done : Processed (b .shared .bits) (b .shared .sizes) (modulesAt b places) (r .threshold) count finals kind-sizes kind-bits order) where
+  abbrev set : List ℕ
+  set = modulesAt b places
+
+  abbrev bits : List ℕ
+  bits = b .shared .bits
+
+  abbrev tree : Tree
+  tree = treeOf b
+
+  abbrev result : Merging
+  result = mergedSubgroups r tree places (kindsAt tree places)
+
+  few-modules : length set ≤ 4096
+  few-modules = omega (arith, length-map places (moduleAt b))
+
+  same : mergedKinds bits (b .shared .sizes) set (r .threshold) ≡ result
+  same = merged-is b places inside r exact
+
+  abbrev still : List ℕ
+  still = subgroupsIn order
+
+  there : result .there ≡ map (subgroupAt (take count kind-sizes) (take (4 * count) kind-bits)) still
+  there =
+      sym (ap (λ (m : Merging). m .there) same)
+      ∙ there-are bits (b .shared .sizes) set few-modules (r .threshold) count finals kind-sizes kind-bits order done
+      ∙ ap (map (subgroupAt (take count kind-sizes) (take (4 * count) kind-bits)))
+      (sym (runs-are bits (b .shared .sizes) set few-modules (r .threshold) count finals kind-sizes kind-bits order done))
+
+  -- a subgroup that a run meets is one of the count
+  pub run-below : (s : ℕ) → List·Memᴰ s (subgroupsIn order) → s < count
+  run-below s m =
+      still-below bits (b .shared .sizes) set few-modules (r .threshold) count finals kind-sizes kind-bits order done s
+      (subst (λ l. List·Memᴰ s l) (runs-are bits (b .shared .sizes) set few-modules (r .threshold) count finals kind-sizes kind-bits order done) m)
+
+  pub divided-items : (g name : ℕ) → dividedItems r g name tree places ≡ map (itemNumbered r g name tree places kind-bits) (subgroupsIn order)
+  unfolding dividedItems subgroupAt
+  divided-items g name =
+      let made : Subgroup → Item = itemOfSubgroup r g name tree places (kindsAt tree places) (result .finals) in
+      let at : ℕ → Subgroup = subgroupAt (take count kind-sizes) (take (4 * count) kind-bits) in
+      ap (map made) there
+      ∙ map-map made at still
+      ∙ map-same (λ s. made (at s)) (itemNumbered r g name tree places kind-bits) still
+      (λ s m.
+      ap {B = Item} (λ (x : BitSet). record
+      { group = g; name = name; subgroup = s; settings = r; bits = some x; places = placesEnded tree places (kindsAt tree places) (result .finals) s })
+      (row-take (4 * count) kind-bits s (omega (arith, run-below s m))))
+
+  -- the item's modules are those of the run
+  pub item-modules : (g name s : ℕ) → modulesAt b (itemNumbered r g name tree places kind-bits s .places) ≡ modulesIn set order s
+  unfolding placesEnded
+  item-modules g name s =
+      let numbers = mergedKinds bits (b .shared .sizes) set (r .threshold) .finals in
+      let ends : ℕ → Bool = λ m. eqb (getD numbers (kindOfModule bits (kindsIn bits set) m) 0) s in
+      let by-place : ℕ → Bool = λ p. eqb (getD (result .finals) (kindNumber 0 (kindsAt tree places) (memberAt tree p .bits)) 0) s in
+      let agree : (p : ℕ) → List·Memᴰ p places → by-place p ≡ ends (moduleAt b p) =
+      λ p m.
+      ap (λ (x : BitSet). eqb (getD (result .finals) (kindNumber 0 (kindsAt tree places) x) 0) s) (bits-at b places inside p m)
+      ∙ ap (λ (k : List BitSet). eqb (getD (result .finals) (kindNumber 0 k (rowOf bits (moduleAt b p))) 0) s) (sym (kinds-are b places inside))
+      ∙ ap (λ (w : Merging). eqb (getD (w .finals) (kindOfModule bits (kindsIn bits set) (moduleAt b p)) 0) s) (sym same) in
+      ap (map (moduleAt b)) (keep-same by-place (λ p. ends (moduleAt b p)) places agree)
+      ∙ sym (keep-map ends (moduleAt b) places)
+      ∙ sym (modules-are bits (b .shared .sizes) set few-modules (r .threshold) count finals kind-sizes kind-bits order done s)

@@ -1,0 +1,15 @@
+-- What the loops need, and the laws.
+pub mod Numbers
+pub mod OneMore
+pub mod Entering
+pub mod KindSizes
+pub mod Counting
+pub mod Turning
+pub mod Positions
+pub mod Dividing
+pub mod FinalState
+pub mod Merging
+pub mod ByPlace
+pub mod Numbered
+pub mod RunModules
+pub mod DividedItems

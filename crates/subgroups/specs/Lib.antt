@@ -1,0 +1,5 @@
+-- Step 2 in tables: the kinds of entry bits of an entries-aware set, their merge, and the set listed by the subgroup that each module ends in.
+pub mod Kinds
+pub mod Finding
+pub mod Merged
+pub mod Items

@@ -1,0 +1,110 @@
+// The kinds of entry bits of a set, numbered by first appearance.
+use bitset::entries::BitSet;
+use bitset::table::row;
+use merge::subgroup::Subgroup;
+use merge::tables::store;
+ghost use mathlib.Core.Path.{_≡_};
+ghost use mathlib.Core.List.{[], _∷_, _++_};
+ghost use Prim.Native.Nat.{_+_, _*_, _^_, _≤_, _<_};
+ghost use lib.ListN.{length, getD, take, set};
+ghost use Rattle.grouping.specs.Subgroups.{sameBits, kindNumber};
+ghost use Rattle.subgroups.specs.Kinds.{rowsOf};
+ghost use Rattle.subgroups.specs.Finding.{Members, KindRoom, KindFits, Entered, KindsFound};
+
+// Equal entry bits.
+pub fn same_bits(a: BitSet, b: BitSet) -> bool
+    ensures { λ r. ⌜ r ≡ sameBits a b ⌝ }
+{
+    let x = a.words;
+    let y = b.words;
+    if x[0] != y[0] {
+        return false;
+    }
+    if x[1] != y[1] {
+        return false;
+    }
+    if x[2] != y[2] {
+        return false;
+    }
+    x[3] == y[3]
+}
+
+// The number of the first kind that has these bits, and the count of kinds if none has.
+pub fn find_kind(kind_bits: &[u64], count: usize, bits: BitSet) -> usize
+    requires { ⌜ 4 * count ≤ length (now «kind_bits») ⌝ }
+    ensures { λ r. ⌜ r ≡ kindNumber 0 (rowsOf (now («kind_bits» .entry)) count) bits ⌝ }
+{
+    let mut i = 0;
+    while i < count {
+        if same_bits(row(kind_bits, i), bits) {
+            return i;
+        }
+        i = i + 1;
+    }
+    count
+}
+
+// The kind of some bits, and the count of kinds once it is among them.
+pub struct Numbered {
+    pub kind: usize,
+    pub count: usize,
+}
+
+// The kind of these bits: one that is there, or a new one of size 0 after the others.
+fn enter_kind(kind_sizes: &mut [u64], kind_bits: &mut [u64], count: usize, bits: BitSet) -> Numbered
+    requires { ⌜ KindFits count bits (now «kind_sizes») (now «kind_bits») ⌝ }
+    ensures { λ r. ⌜ Entered count bits (now («kind_sizes» .entry)) (now («kind_bits» .entry)) (r .kind) (r .count)
+        (now («kind_sizes» .exit)) (now («kind_bits» .exit)) ⌝ }
+{
+    let kind = find_kind(kind_bits, count, bits);
+    if kind < count {
+        return Numbered { kind, count };
+    }
+    store(
+        kind_sizes,
+        kind_bits,
+        Subgroup {
+            number: count,
+            size: 0.0,
+            bits,
+        },
+    );
+    Numbered {
+        kind,
+        count: count + 1,
+    }
+}
+
+// Adds a size to that of a kind.
+fn add_to_kind(kind_sizes: &mut [u64], kind: usize, size: u64)
+    requires { ⌜ (kind < length (now «kind_sizes»)) × (getD (now «kind_sizes») kind 0 + size ≤ 2 ^ 53) ⌝ }
+    ensures { λ _. ⌜ now («kind_sizes» .exit) ≡ set (now («kind_sizes» .entry)) kind (getD (now («kind_sizes» .entry)) kind 0 + size) ⌝ }
+{
+    kind_sizes[kind] = kind_sizes[kind] + size;
+}
+
+// Finds the kinds of the modules of a set, numbered by first appearance, and the size of each. Answers how many there are.
+pub fn find_kinds(
+    bits: &[u64],
+    sizes: &[u64],
+    set: &[u32],
+    kind_of: &mut [u32],
+    kind_sizes: &mut [u64],
+    kind_bits: &mut [u64],
+) -> usize
+    requires { ⌜ Members (now bits) (now sizes) (now set) × KindRoom (now set) (now «kind_of») (now «kind_sizes») (now «kind_bits») ⌝ }
+    ensures { λ r. ⌜ KindsFound (now (bits .entry)) (now (sizes .entry)) (now (set .entry)) r
+        (now («kind_of» .exit)) (now («kind_sizes» .exit)) (now («kind_bits» .exit)) ⌝ }
+{
+    let mut count = 0;
+    let mut i = 0;
+    while i < set.len() {
+        let m = set[i] as usize;
+        let found = enter_kind(kind_sizes, kind_bits, count, row(bits, m));
+        count = found.count;
+        kind_of[i] = found.kind as u32;
+        add_to_kind(kind_sizes, found.kind, sizes[m]);
+        i = i + 1;
+    }
+    count
+}

@@ -1,0 +1,228 @@
+//! Chunks of a whole build.
+
+use gentropi::{
+    GroupBuf,
+    raw::{self, ChunksAreas, ChunksTables},
+};
+use text::{Answer, Chunk, ChunkList, Chunks, Group, Options, tables, tables::BuildTables};
+
+use super::{Asked, count};
+use crate::{Lent, Pattern};
+
+/// What came of a whole build, and the areas that were lent to the call.
+#[derive(Debug, Clone)]
+pub struct AskedBuild {
+    /// The answer, and what the areas show to be wrong.
+    pub asked: Asked,
+    /// The areas after the call.
+    pub areas: BuildAreas,
+}
+
+/// The areas of a whole build.
+#[derive(Debug, Clone)]
+pub struct BuildAreas {
+    chunk_of: Lent<u32>,
+    next_of: Lent<u32>,
+    first_of: Lent<u32>,
+    group_of: Lent<u32>,
+    name_of: Lent<u32>,
+    size_of: Lent<f64>,
+    /// Four words for each record.
+    bits_of: Lent<u64>,
+    scratch: Lent<u32>,
+    count: Lent<usize>,
+}
+
+/// Lends areas as long as a build says, with a pattern in them, calls, and looks at them.
+pub fn ask_build(chunks: &Chunks) -> AskedBuild {
+    let handed = tables::of_chunks(chunks);
+    let groups = handed.groups.iter().map(group).collect();
+    let tables = raw_tables(&handed, &groups);
+    let mut areas = BuildAreas::new(handed.areas);
+    let number = raw::chunks(&tables, areas.lend());
+    let asked = if number != 0 {
+        Asked::refused(number, areas.untouched())
+    } else {
+        let (list, broken) = areas.list(tables.n, tables.on_entry);
+        let mut asked = Asked::answered(Answer::Chunks(list), areas.kept_past(tables.n));
+        asked.warnings.extend(broken);
+        asked
+    };
+    AskedBuild { asked, areas }
+}
+
+/// The tables as the library takes them.
+pub fn raw_tables<'a>(handed: &'a BuildTables, groups: &'a GroupBuf) -> ChunksTables<'a> {
+    ChunksTables {
+        n: count(handed.n),
+        g: count(handed.g),
+        e: count(handed.e),
+        k: count(handed.k),
+        d: count(handed.d),
+        flags: &handed.flags,
+        sizes: &handed.sizes,
+        orders: &handed.orders,
+        shares: &handed.shares,
+        tags: &handed.tags,
+        bits: &handed.bits,
+        bytes: &handed.ids,
+        offsets: &handed.offsets,
+        first: &handed.first,
+        dependency: &handed.dep_module,
+        next: &handed.dep_next,
+        options: options(&handed.options).numbers(),
+        groups: groups.as_tables(),
+        answers: &handed.answers,
+        on_entry: count(handed.count_on_entry),
+    }
+}
+
+fn options(options: &Options) -> gentropi::Options {
+    gentropi::Options {
+        min_size: options.min_size,
+        max_size: options.max_size,
+        min_module_size: options.min_module_size,
+        max_module_size: options.max_module_size,
+        min_share_count: options.min_share_count,
+        recursive: options.recursive,
+    }
+}
+
+/// A group; an absent priority or threshold is 0.
+pub fn group(group: &Group) -> gentropi::Group {
+    gentropi::Group {
+        options: options(&group.options),
+        tags: group.mask,
+        priority: group.priority.unwrap_or(0),
+        entries_aware: group.entries_aware == Some(true),
+        threshold: group.threshold.unwrap_or(0.0),
+    }
+}
+
+impl BuildAreas {
+    /// Areas of so many items for modules (twice), chunk records, and scratch.
+    fn new(lengths: [usize; 4]) -> Self {
+        let [chunk_of, next_of, records, scratch] = lengths;
+        Self {
+            chunk_of: Lent::new("chunk_of", chunk_of),
+            next_of: Lent::new("next_of", next_of),
+            first_of: Lent::new("first_of", records),
+            group_of: Lent::new("group_of", records),
+            name_of: Lent::new("name_of", records),
+            size_of: Lent::new("size_of", records),
+            bits_of: Lent::new("bits_of", 4 * records),
+            scratch: Lent::new("scratch", scratch),
+            count: Lent::new("count", 1),
+        }
+    }
+
+    fn lend(&mut self) -> ChunksAreas<'_> {
+        ChunksAreas {
+            chunk_of: self.chunk_of.lend(),
+            next_of: self.next_of.lend(),
+            first_of: self.first_of.lend(),
+            group_of: self.group_of.lend(),
+            name_of: self.name_of.lend(),
+            size_of: self.size_of.lend(),
+            bits_of: self.bits_of.lend(),
+            scratch: self.scratch.lend(),
+            count: &mut self.count.lend()[0],
+        }
+    }
+
+    /// The count that the call wrote.
+    fn count(&self) -> usize {
+        self.count.first(1)[0]
+    }
+
+    /// What is wrong after a refusal.
+    fn untouched(&self) -> [Option<String>; 9] {
+        [
+            self.chunk_of.untouched(),
+            self.next_of.untouched(),
+            self.first_of.untouched(),
+            self.group_of.untouched(),
+            self.name_of.untouched(),
+            self.size_of.untouched(),
+            self.bits_of.untouched(),
+            self.scratch.untouched(),
+            self.count.untouched(),
+        ]
+    }
+
+    /// What is wrong after an acceptance with `n` modules.
+    fn kept_past(&self, n: usize) -> [Option<String>; 8] {
+        let count = self.count();
+        [
+            self.chunk_of.kept_past(n),
+            self.next_of.kept_past(n),
+            self.first_of.kept_past(count),
+            self.group_of.kept_past(count),
+            self.name_of.kept_past(count),
+            self.size_of.kept_past(count),
+            self.bits_of.kept_past(count.saturating_mul(4)),
+            self.scratch.zeros(),
+        ]
+    }
+
+    /// The new chunks, and what is wrong if the chain of one doesn't end.
+    fn list(&self, n: usize, on_entry: usize) -> (ChunkList, Vec<String>) {
+        let (mut chunks, mut broken) = (Vec::new(), Vec::new());
+        let records = self.first_of.first(self.count()).len();
+        for record in 0..records {
+            let modules = self.chain(self.first_of.first(records)[record], n);
+            if modules.is_none() {
+                broken.push(format!("the chain of record {record} leaves the modules"));
+            }
+            let bits = self.bits_of.first(4 * records);
+            chunks.push(Chunk {
+                chunk: u32::try_from(on_entry + record).unwrap_or(u32::MAX),
+                group: self.group_of.first(records)[record],
+                name: self.name_of.first(records)[record],
+                size: self.size_of.first(records)[record],
+                bits: std::array::from_fn(|word| bits[4 * record + word]),
+                modules: modules.unwrap_or_default(),
+            });
+        }
+        (ChunkList { chunks, chunk_of: self.chunk_of.first(n).to_vec() }, broken)
+    }
+
+    /// The modules of a chain, if it ends and names nothing else.
+    fn chain(&self, first: u32, n: usize) -> Option<Vec<u32>> {
+        let next_of = self.next_of.first(n);
+        let (mut modules, mut next) = (Vec::new(), first);
+        while let Some(module) = next.checked_sub(1) {
+            if modules.len() == n {
+                return None;
+            }
+            next = *next_of.get(module as usize)?;
+            modules.push(module);
+        }
+        Some(modules)
+    }
+
+    /// Each area but the count, in the order of the call, as words; where an area still holds its
+    /// pattern, that of words.
+    pub fn words(&self) -> [Vec<u64>; 8] {
+        [
+            self.chunk_of.words(),
+            self.next_of.words(),
+            self.first_of.words(),
+            self.group_of.words(),
+            self.name_of.words(),
+            self.size_of.words(),
+            self.bits_of.words(),
+            self.scratch.words(),
+        ]
+    }
+}
+
+impl Pattern for usize {
+    fn at(place: usize) -> Self {
+        count(u64::at(place))
+    }
+
+    fn word(self) -> u64 {
+        self as u64
+    }
+}

@@ -1,0 +1,325 @@
+//! Deliberate faults of the reading of whole builds: each is one switch at the place concerned, and
+//! all are off by default. The recorded cases are held against them, since no theorem can notice a
+//! definition that is wrong throughout.
+
+use text::{Count, Group, Options, Table};
+
+use self::ReadingFault as F;
+
+/// One thing that the reading gets wrong on purpose.
+#[derive(Debug, Clone, Copy, PartialEq, Eq)]
+pub enum ReadingFault {
+    /// 1: a limit is one too high, or one too low.
+    LimitHigher(Count),
+    LimitLower(Count),
+    /// 2: such lengths of a table are accepted.
+    Length(Table, Lengths),
+    /// 3: an id of 1,025 bytes is accepted; one of 1,024 is refused.
+    IdLonger,
+    IdShorter,
+    /// 3: an offset that falls, or passes the end, is accepted.
+    OffsetFalls,
+    OffsetPastEnd,
+    /// 3: ids that leave out the first bytes, or the last ones, are refused.
+    OffsetsFromZero,
+    OffsetsToEnd,
+    /// 4, 5, 6: over the eligible modules, or over all, instead of the normal included ones.
+    PartEligible(u32),
+    PartAll(u32),
+    /// 6: a total of 2^53 + 1 is accepted; one of 2^53 is refused.
+    TotalHigher,
+    TotalLower,
+    /// 7: first records, nexts or modules of records aren't tested; a module N is accepted.
+    FirstUntested,
+    NextUntested,
+    RecordModuleUntested,
+    RecordModuleAtLimit,
+    /// 7: record 0 is tested; records on no chain aren't; only eligible modules' first records are.
+    RecordZeroTested,
+    OffChainUntested,
+    FirstIfEligible,
+    /// 7: chains aren't tested; only eligible modules' are; a chain of D records is refused.
+    ChainUntested,
+    ChainIfEligible,
+    ChainLower,
+    /// 8: an option isn't tested.
+    NanUntested(Level, Setting),
+    /// 8: a threshold is tested in entries-aware groups only.
+    NanThresholdIfAware,
+    /// 8: the last group isn't tested, or it is the only one that is.
+    NanNotInLastGroup,
+    NanOnlyInLastGroup,
+    /// 8: an absent option counts as a NaN.
+    NanAbsent(Level, Setting),
+    /// 9: no flag byte is tested; 8 is accepted; 7 is refused.
+    FlagsUntested,
+    FlagsEightAccepted,
+    FlagsSevenRefused,
+    /// 9: the bit at E is accepted; a word isn't tested.
+    BitAtLimit,
+    BitsUntested(usize),
+    /// 9: the bit at E is accepted if it is the first of a word.
+    BitAtWord(usize),
+    /// 10: K+2 is accepted; K+1 is refused.
+    AnswerHigher,
+    AnswerLower,
+    /// 10: only one group's answers are tested.
+    AnswersOfFirstGroup,
+    AnswersOfLastGroup,
+    /// 11: 65,536 is accepted; 65,535 is refused.
+    EntryCountHigher,
+    EntryCountLower,
+    /// 12 and 13: an area that is one short is accepted.
+    ShortChunkOf,
+    ShortNextOf,
+    ShortRecords,
+    ShortScratch,
+    /// 13: P over eligible modules; over answers of 1 too; over modules that pass the filter.
+    PairsEligible,
+    PairsUnnamed,
+    PairsFiltered,
+    /// 13: P counts names of different groups once; every answer by itself.
+    PairsByName,
+    PairsRepeated,
+    /// 13: 31×N or 33×N.
+    Words31,
+    Words33,
+    /// Two neighbouring conditions have each other's numbers, or are tested in the other order.
+    NumbersExchanged(u32),
+    OrderExchanged(u32),
+    /// Answers are read module by module.
+    AnswersByModule,
+    /// A setting is read from another one's place.
+    WrongSlot(Level, Setting, Setting),
+    /// A setting is passed over.
+    Ignored(Level, Setting),
+    /// The global option overrides the group's.
+    GlobalFirst(Setting),
+    /// An absent setting counts as another value.
+    Default(Setting),
+    /// One tag of the mask is enough; a mask of zero lets nothing pass.
+    AnyTag,
+    EmptyMaskPassesNone,
+    /// An entry word is passed over where entry bits are compared or united.
+    WordIgnored(Use, usize),
+    /// An item below min_size that is above max_size isn't dropped.
+    CutBeforeDropped,
+    /// An item at min_size is dropped; one at max_size is cut.
+    AtMinSizeDropped,
+    AtMaxSizeCut,
+    /// An area is written one entry past its end, or by a refused call.
+    PastEnd(Area),
+    RefusedWrites(Area),
+    /// The first new chunk's record stands at the count on entry.
+    RecordsByNumber,
+    /// Scratch past its need isn't zeroed.
+    ScratchKept,
+}
+
+/// Lengths of a table that differ from the one that its counts imply.
+#[derive(Debug, Clone, Copy, PartialEq, Eq)]
+pub enum Lengths {
+    Shorter,
+    Longer,
+    Any,
+}
+
+/// Where a setting is given.
+#[derive(Debug, Clone, Copy, PartialEq, Eq)]
+pub enum Level {
+    Global,
+    Group,
+}
+
+/// A setting; the first six are options of the build as a whole too.
+#[derive(Debug, Clone, Copy, PartialEq, Eq)]
+pub enum Setting {
+    MinSize,
+    MaxSize,
+    MinModuleSize,
+    MaxModuleSize,
+    MinShareCount,
+    Recursive,
+    Threshold,
+    Priority,
+    EntriesAware,
+    Mask,
+}
+
+/// What entry bits are used for.
+#[derive(Debug, Clone, Copy, PartialEq, Eq)]
+pub enum Use {
+    /// Step 2: whether two modules have equal bits.
+    Equality,
+    /// Merge: the bits of the joined subgroup, and the entries held by exactly one.
+    Joined,
+    Distance,
+    /// Step 5: the bits of a chunk.
+    Union,
+}
+
+/// A lent area. The five of the chunk records are `First` to `Bits`.
+#[derive(Debug, Clone, Copy, PartialEq, Eq)]
+pub enum Area {
+    ChunkOf,
+    NextOf,
+    First,
+    Group,
+    Name,
+    Size,
+    Bits,
+    Scratch,
+}
+
+impl Area {
+    pub const ALL: [Self; 8] = [
+        Self::ChunkOf,
+        Self::NextOf,
+        Self::First,
+        Self::Group,
+        Self::Name,
+        Self::Size,
+        Self::Bits,
+        Self::Scratch,
+    ];
+}
+
+/// The rules that the reading goes by.
+#[derive(Debug, Clone, Copy, PartialEq, Eq)]
+pub struct Rules {
+    fault: Option<ReadingFault>,
+}
+
+/// The rules of document 01.
+pub const SOUND: Rules = Rules { fault: None };
+
+impl Rules {
+    /// Document 01's rules but for one fault.
+    pub fn with(fault: ReadingFault) -> Self {
+        Self { fault: Some(fault) }
+    }
+
+    /// Whether the reading has this fault.
+    pub fn has(self, fault: ReadingFault) -> bool {
+        self.fault == Some(fault)
+    }
+
+    /// The limit of a count.
+    pub fn limit(self, which: Count, limit: u64) -> u64 {
+        limit + u64::from(self.has(F::LimitHigher(which)))
+            - u64::from(self.has(F::LimitLower(which)))
+    }
+
+    /// Whether a table's length isn't the wanted one.
+    pub fn length_differs(self, table: Table, length: usize, wanted: u64) -> bool {
+        let (shorter, longer) = ((length as u64) < wanted, length as u64 > wanted);
+        match self.fault {
+            Some(F::Length(fault, Lengths::Shorter)) if fault == table => longer,
+            Some(F::Length(fault, Lengths::Longer)) if fault == table => shorter,
+            Some(F::Length(fault, Lengths::Any)) if fault == table => false,
+            _ => shorter || longer,
+        }
+    }
+
+    /// The number under which a condition is reported.
+    pub fn number(self, number: u32) -> u32 {
+        match self.fault {
+            Some(F::NumbersExchanged(lower)) if number == lower => lower + 1,
+            Some(F::NumbersExchanged(lower)) if number == lower + 1 => lower,
+            _ => number,
+        }
+    }
+
+    /// The lower number of two conditions that are tested in the other order.
+    pub fn exchanged(self) -> Option<u32> {
+        if let Some(F::OrderExchanged(lower)) = self.fault { Some(lower) } else { None }
+    }
+
+    /// Whether 4, 5 and 6 look at a module with these flags.
+    pub fn takes_part(self, number: u32, flags: u8) -> bool {
+        self.has(F::PartAll(number))
+            || flags & 3 == 3 && !(self.has(F::PartEligible(number)) && flags & 4 != 0)
+    }
+
+    /// Whether 8 applies to an option.
+    pub fn is_nan(self, level: Level, setting: Setting, value: Option<f64>) -> bool {
+        let counted = self.has(F::NanAbsent(level, setting)) && value.is_none();
+        let untested = self.has(F::NanUntested(level, setting));
+        counted || !untested && value.is_some_and(f64::is_nan)
+    }
+
+    /// A limit or threshold in force.
+    pub fn double(self, setting: Setting, group: &Group, global: &Options) -> Option<f64> {
+        let own = match self.slot(Level::Group, setting) {
+            Setting::Threshold => group.threshold,
+            other => double(other, &group.options),
+        };
+        self.in_force(setting, own, double(self.slot(Level::Global, setting), global))
+    }
+
+    /// A least share count or a priority in force.
+    pub fn count(self, setting: Setting, group: &Group, global: &Options) -> Option<u32> {
+        let own = match self.slot(Level::Group, setting) {
+            Setting::Priority => group.priority,
+            _ => group.options.min_share_count,
+        };
+        let shared = (setting == Setting::MinShareCount).then_some(global.min_share_count);
+        self.in_force(setting, own, shared.flatten())
+    }
+
+    /// A yes or no in force.
+    pub fn yes(self, setting: Setting, group: &Group, global: &Options) -> Option<bool> {
+        let own = match self.slot(Level::Group, setting) {
+            Setting::EntriesAware => group.entries_aware,
+            _ => group.options.recursive,
+        };
+        let shared = (setting == Setting::Recursive).then_some(global.recursive);
+        self.in_force(setting, own, shared.flatten())
+    }
+
+    /// The place that a setting is read from.
+    fn slot(self, level: Level, setting: Setting) -> Setting {
+        match self.fault {
+            Some(F::WrongSlot(at, wanted, read)) if (at, wanted) == (level, setting) => read,
+            _ => setting,
+        }
+    }
+
+    /// A group's option overrides the global one.
+    fn in_force<T>(self, setting: Setting, own: Option<T>, global: Option<T>) -> Option<T> {
+        let own = own.filter(|_| !self.has(F::Ignored(Level::Group, setting)));
+        let global = global.filter(|_| !self.has(F::Ignored(Level::Global, setting)));
+        if self.has(F::GlobalFirst(setting)) { global.or(own) } else { own.or(global) }
+    }
+
+    /// What an absent setting counts as.
+    pub fn default<T>(self, setting: Setting, sound: T, faulty: T) -> T {
+        if self.has(F::Default(setting)) { faulty } else { sound }
+    }
+
+    /// Entry words as they are used.
+    pub fn words(self, purpose: Use, mut bits: [u64; 4]) -> [u64; 4] {
+        if let Some(F::WordIgnored(fault, word)) = self.fault
+            && fault == purpose
+        {
+            bits[word] = 0;
+        }
+        bits
+    }
+
+    /// The area that a refused call writes.
+    pub fn refused_writes(self) -> Option<Area> {
+        if let Some(F::RefusedWrites(area)) = self.fault { Some(area) } else { None }
+    }
+}
+
+/// A limit among the options.
+fn double(setting: Setting, options: &Options) -> Option<f64> {
+    match setting {
+        Setting::MinSize => options.min_size,
+        Setting::MaxSize => options.max_size,
+        Setting::MinModuleSize => options.min_module_size,
+        Setting::MaxModuleSize => options.max_module_size,
+        _ => None,
+    }
+}
