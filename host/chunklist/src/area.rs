@@ -50,6 +50,9 @@ impl Pattern for f64 {
     }
 }
 
+/// How many items are compared before it is asked whether one differs.
+const BLOCK: usize = 4_096;
+
 /// An area to lend, filled with the pattern.
 #[derive(Debug, Clone)]
 pub struct Lent<T> {
@@ -92,16 +95,35 @@ impl<T: Pattern> Lent<T> {
 
     /// After an acceptance, for scratch: what is wrong if an item isn't zero.
     pub fn zeros(&self) -> Option<String> {
-        let place = self.items.iter().position(|item| *item != T::default())?;
+        let place = self.nonzero_below(self.items.len())?;
         Some(format!("{}[{place}] didn't end as zero", self.name))
     }
 
-    /// The items as words; where one still holds the pattern, that of words.
-    pub fn words(&self) -> Vec<u64> {
-        let word = |(place, item): (usize, &T)| {
-            if *item == T::at(place) { u64::at(place) } else { item.word() }
-        };
-        self.items.iter().enumerate().map(word).collect()
+    /// The first place that holds anything but zero below `zeros`, or but the pattern from there on.
+    pub fn unlike(&self, zeros: usize) -> Option<usize> {
+        let zeros = zeros.min(self.items.len());
+        self.nonzero_below(zeros).or_else(|| self.written_from(zeros))
+    }
+
+    /// How many items there are.
+    pub fn length(&self) -> usize {
+        self.items.len()
+    }
+
+    /// An item as a word; if it still holds the pattern, that of words.
+    pub fn word(&self, place: usize) -> u64 {
+        let item = self.items[place];
+        if item == T::at(place) { u64::at(place) } else { item.word() }
+    }
+
+    /// The first place below `end` that isn't zero. Scratch is long, so it is looked at in blocks.
+    fn nonzero_below(&self, end: usize) -> Option<usize> {
+        let is_zero = |item: &T| *item == T::default();
+        let all_zero = |block: &[T]| block.iter().fold(true, |all, item| all & is_zero(item));
+        let mut blocks = self.items[..end].chunks(BLOCK).enumerate();
+        let (number, block) = blocks.find(|(_, block)| !all_zero(block))?;
+        let place = block.iter().position(|item| !is_zero(item))?;
+        Some(number * BLOCK + place)
     }
 
     /// The first place, not below `from`, that no longer holds the pattern.
@@ -150,5 +172,17 @@ mod tests {
         assert_eq!(area.zeros(), None);
         area.lend()[2] = 1;
         assert_eq!(area.zeros().as_deref(), Some("scratch[2] didn't end as zero"));
+    }
+
+    #[test]
+    fn scratch_is_compared_up_to_its_end() {
+        let mut area = Lent::<u32>::new("scratch", 10_000);
+        assert_eq!(area.unlike(0), None);
+        area.lend()[..9_000].fill(0);
+        assert_eq!(area.unlike(9_000), None);
+        assert_eq!(area.unlike(9_001), Some(9_000));
+        assert_eq!(area.unlike(8_999), Some(8_999));
+        area.lend()[5_000] = 1;
+        assert_eq!(area.unlike(9_000), Some(5_000));
     }
 }

@@ -20,5 +20,5 @@ pub use answer_all::{Messages, answer_all};
 pub use area::{Lent, Pattern};
 pub use ask::{
     Asked, ask,
-    chunks::{AskedBuild, BuildAreas, ask_build, group, raw_tables},
+    chunks::{AskedBuild, BuildAreas, ReadyBuild, ask_build, group, raw_tables},
 };

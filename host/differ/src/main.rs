@@ -10,7 +10,11 @@ mod reference;
 mod report;
 mod rng;
 mod run;
+#[path = "../../bench/src/shapes.rs"]
+mod shapes;
 mod side;
+mod slowest;
+mod stack;
 mod walks;
 
 use std::{env, fs, io::Read, path::PathBuf, process::ExitCode, thread};
@@ -23,13 +27,19 @@ const HELP: &str = "\
 differ: the crate's own text, document 01 and the proved library, run on the same inputs
 
   differ all [--cases N] [--builds N] [--seed S]   runs everything; N random cases for each leaf
-                                                   (200000) and N whole builds (as many)
+             [--largest N] [--largest-p P]         (200000), N whole builds (as many) and N of 4,096
+                                                   modules and 65,535 records (100), with P at most
+                                                   so large (262144, which takes 4.3 GB)
   differ faults [--cases N] [--seed S]             runs every deliberate fault (N: 4000)
   differ reading-faults [--cases N] [FOLDER]       runs every deliberate fault of the reading on the
                                                    recorded builds and refusals, and on N random
                                                    builds beside them (0)
   differ corpus [FOLDER]                           writes the recorded corpus (into `corpus`)
   differ corpus --check [FOLDER]                   compares the recorded corpus with a new one
+  differ stack [--cases N]                         how much stack a call of the library takes, over
+                                                   N random ones of each call (1000) and the largest
+  differ slowest                                   how long the library takes for the accepted builds
+                                                   that take it longest, as far as they are known
   differ answer [--side SIDE] [--walk WALK] [FILE] answers the cases of a file or of standard input;
                                                    SIDE is `crate`, `reference` or `library`, WALK the
                                                    order in which the crate walks hash maps:
@@ -56,47 +66,73 @@ fn main() -> ExitCode {
 
 /// Runs one command; true if all is as it should be.
 fn command(arguments: &[String]) -> Result<bool, String> {
-    let mut options = Options::read(arguments)?;
+    let options = Options::read(arguments)?;
     match options.command.as_str() {
-        "all" => {
-            let cases = options.number("--cases")?.unwrap_or(200_000);
-            let builds = options.number("--builds")?.unwrap_or(cases);
-            let seed = options.number("--seed")?.unwrap_or(1);
+        "all" => all(options),
+        "faults" => faults(options),
+        "reading-faults" => reading_faults(options),
+        "corpus" => corpus(options),
+        "stack" => stack(options),
+        "slowest" => {
             options.done(0)?;
-            Ok(report::run(&Run::all(Plan { seed, cases, builds })))
+            report::slowest(slowest::builds());
+            Ok(true)
         }
-        "faults" => {
-            let cases = options.number("--cases")?.unwrap_or(4_000);
-            let seed = options.number("--seed")?.unwrap_or(1);
-            options.done(0)?;
-            fault_runs::break_off_quietly();
-            Ok(report::faults(&fault_runs::all(seed, cases)))
-        }
-        "reading-faults" => {
-            let cases = options.number("--cases")?.unwrap_or(0);
-            options.done(1)?;
-            let folder = PathBuf::from(options.rest.first().map_or("corpus", String::as_str));
-            fault_runs::break_off_quietly();
-            Ok(report::reading_faults(&reading_faults::all(&folder, cases)?))
-        }
-        "corpus" => {
-            let check = options.flag("--check");
-            options.done(1)?;
-            let folder = PathBuf::from(options.rest.first().map_or("corpus", String::as_str));
-            corpus::write(&folder, check)
-        }
-        "answer" => {
-            let side = options.value("--side")?.unwrap_or("crate".into());
-            let walk = walk(&options.value("--walk")?.unwrap_or("document".into()))?;
-            options.done(1)?;
-            answer(&side, walk, options.rest.first())
-        }
+        "answer" => answer(options),
         "--help" | "-h" | "help" => {
             print!("{HELP}");
             Ok(true)
         }
         other => Err(format!("unknown command `{other}`\n\n{HELP}")),
     }
+}
+
+fn all(mut options: Options) -> Result<bool, String> {
+    let cases = options.number("--cases")?.unwrap_or(200_000);
+    let plan = Plan {
+        seed: options.number("--seed")?.unwrap_or(1),
+        cases,
+        builds: options.number("--builds")?.unwrap_or(cases),
+        largest: options.number("--largest")?.unwrap_or(100),
+        largest_p: options.number("--largest-p")?.unwrap_or(64 * 4_096) as usize,
+    };
+    options.done(0)?;
+    Ok(report::run(&Run::all(plan)))
+}
+
+fn faults(mut options: Options) -> Result<bool, String> {
+    let cases = options.number("--cases")?.unwrap_or(4_000);
+    let seed = options.number("--seed")?.unwrap_or(1);
+    options.done(0)?;
+    fault_runs::break_off_quietly();
+    Ok(report::faults(&fault_runs::all(seed, cases)))
+}
+
+fn reading_faults(mut options: Options) -> Result<bool, String> {
+    let cases = options.number("--cases")?.unwrap_or(0);
+    options.done(1)?;
+    fault_runs::break_off_quietly();
+    Ok(report::reading_faults(&reading_faults::all(&options.folder(), cases)?))
+}
+
+fn corpus(mut options: Options) -> Result<bool, String> {
+    let check = options.flag("--check");
+    options.done(1)?;
+    corpus::write(&options.folder(), check)
+}
+
+fn stack(mut options: Options) -> Result<bool, String> {
+    let cases = options.number("--cases")?.unwrap_or(1_000);
+    options.done(0)?;
+    report::stack(&stack::measure(cases).map_err(|error| error.to_string())?);
+    Ok(true)
+}
+
+fn answer(mut options: Options) -> Result<bool, String> {
+    let side = options.value("--side")?.unwrap_or("crate".into());
+    let walk = walk(&options.value("--walk")?.unwrap_or("document".into()))?;
+    options.done(1)?;
+    answer_file(&side, walk, options.rest.first())
 }
 
 /// An order of walking by its word.
@@ -113,7 +149,7 @@ fn walk(word: &str) -> Result<Walk, String> {
 
 /// Answers the cases of a file or of standard input. What document 01 refuses isn't put to the
 /// crate.
-fn answer(side: &str, walk: Walk, file: Option<&String>) -> Result<bool, String> {
+fn answer_file(side: &str, walk: Walk, file: Option<&String>) -> Result<bool, String> {
     let text = match file {
         Some(file) => fs::read_to_string(file).map_err(|error| format!("{file}: {error}"))?,
         None => {
@@ -171,6 +207,11 @@ impl Options {
         let value = self.value(name)?;
         let number = value.map(|value| value.parse().map_err(|_| format!("{name} needs a number")));
         number.transpose()
+    }
+
+    /// The folder of the corpus, which may be the word that is left.
+    fn folder(&self) -> PathBuf {
+        PathBuf::from(self.rest.first().map_or("corpus", String::as_str))
     }
 
     /// At most so many words are left.

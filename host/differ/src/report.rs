@@ -1,11 +1,15 @@
 //! What a run says at its end.
 
+use std::time::Duration;
+
 use text::Call;
 
 use crate::{
     fault_runs::{Count, Verdict},
     reading_faults::Fared,
-    run::{LibraryTally, Run},
+    run::{LargeTally, LibraryTally, PairTally, Run, Tally},
+    slowest::{self, Slow, Took},
+    stack::{Deepest, Depths},
 };
 
 /// Prints a run; true if it is as it should be.
@@ -23,6 +27,8 @@ pub fn run(run: &Run) -> bool {
         );
         print_refusals(&tally.refused);
         print_library(&tally.library);
+        print_large(&tally.large);
+        print_pairs(&tally.pairs);
         for (kind, count) in run.counts.of(*call) {
             println!("  {count:>9}  {kind}");
         }
@@ -33,8 +39,35 @@ pub fn run(run: &Run) -> bool {
         println!("no case of {}: {kind}", call.word());
     }
     println!("{} with ids that aren't UTF-8, which the crate can't be asked", run.not_text);
+    print_table(&run.tallies);
     println!("{} disagreements", run.disagreements);
     run.disagreements == 0 && missing.is_empty()
+}
+
+/// The counts of all calls, one line each.
+fn print_table(tallies: &[(Call, Tally)]) {
+    println!();
+    println!(
+        "| call | figures | short | random | largest | damaged | renumbered | library answered | library refused | seconds |"
+    );
+    println!("|---|---|---|---|---|---|---|---|---|---|");
+    for (call, tally) in tallies {
+        let damaged: u64 = tally.refused.iter().sum();
+        let LibraryTally { answered, refused, .. } = tally.library;
+        let counts = [tally.figures, tally.exhaustive, tally.random, tally.largest, damaged];
+        let counts = [counts.as_slice(), &[tally.pairs.pairs, answered, refused]].concat();
+        let counts: Vec<String> = counts.into_iter().map(with_commas).collect();
+        let seconds = tally.seconds.as_secs_f64();
+        println!("| {} | {} | {seconds:.1} |", call.word(), counts.join(" | "));
+    }
+    println!();
+}
+
+/// A count as people write it.
+fn with_commas(count: u64) -> String {
+    let digits = count.to_string();
+    let parts: Vec<&[u8]> = digits.as_bytes().rchunks(3).rev().collect();
+    String::from_utf8_lossy(&parts.join(&b',')).into_owned()
 }
 
 /// How many damaged questions each number refused.
@@ -48,6 +81,24 @@ fn print_refusals(refused: &[u64; 14]) {
 fn print_library(tally: &LibraryTally) {
     let LibraryTally { answered, refused, wrote } = tally;
     println!("  library: {answered} answered, {refused} refused, {wrote} wrote elsewhere");
+}
+
+/// Random builds of 4,096 modules and 65,535 records.
+fn print_large(tally: &LargeTally) {
+    let LargeTally { builds, damaged, most_pairs, seconds } = tally;
+    if *builds > 0 {
+        print!("  of 4,096 modules and 65,535 records: {builds} random, {damaged} damaged, ");
+        println!("P up to {most_pairs}; {:.1} s", seconds.as_secs_f64());
+    }
+}
+
+/// Pairs of builds that are alike but for load numbers.
+fn print_pairs(tally: &PairTally) {
+    let PairTally { pairs, chunks, chains, records, differ } = tally;
+    if *pairs > 0 {
+        print!("  renumbered: {pairs} pairs, {chunks} with a new chunk, {chains} with several ");
+        println!("modules in one, {records} with another count of records; {differ} differ");
+    }
 }
 
 /// How the builds compared under other walks.
@@ -90,6 +141,35 @@ pub fn reading_faults(all: &[Fared]) -> bool {
     }
     println!("{} of {} faults of the reading noticed", all.len() - unnoticed.len(), all.len());
     unnoticed.is_empty()
+}
+
+/// Prints how much stack a call takes.
+pub fn stack(depths: &Depths) {
+    let part = |deepest: &Deepest, kind: &str| {
+        let (kilobytes, what) = (deepest.bytes.div_ceil(1_024), &deepest.what);
+        format!("at most {kilobytes} KB in {} {kind} calls ({what})", deepest.calls)
+    };
+    let (accepted, refused) =
+        (part(&depths.accepted, "accepted"), part(&depths.refused, "refused"));
+    println!("stack: {accepted}, {refused}");
+}
+
+/// Times the slow builds one after another and prints them.
+pub fn slowest(builds: Vec<Slow>) {
+    println!("processor seconds, wall seconds, sets, build");
+    for (name, sets, build) in builds {
+        match slowest::timed(build) {
+            Ok(Took { wall, processor }) => {
+                let processor = processor.map_or("-".into(), |time| seconds(time));
+                println!("{processor:>10}{:>10}{sets:>8}  {name}", seconds(wall));
+            }
+            Err(number) => println!("refused with {number}: {name}"),
+        }
+    }
+}
+
+fn seconds(time: Duration) -> String {
+    format!("{:.3}", time.as_secs_f64())
 }
 
 /// How many questions notice a fault.

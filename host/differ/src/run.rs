@@ -5,8 +5,13 @@ use std::time::{Duration, Instant};
 use judge::{Callbacks, Judge, Outside, Walk};
 use text::{Answer, Call, Case, Chunks, Question, Reply, tables};
 
+mod largest;
+mod pairs;
+
+pub use pairs::PairTally;
+
 use crate::{
-    generate::{self, damage, figures, largest},
+    generate::{self, damage, figures},
     kinds::{self, Counts},
     reference::{chunks::chunk_list, trace::Trace},
     rng::Rng,
@@ -23,8 +28,12 @@ pub struct Plan {
     pub seed: u64,
     /// Random questions for each leaf.
     pub cases: u64,
-    /// Random whole builds.
+    /// Random whole builds, each with a second one that is alike but for load numbers.
     pub builds: u64,
+    /// Random builds of 4,096 modules and 65,535 records.
+    pub largest: u64,
+    /// The largest P among these.
+    pub largest_p: usize,
 }
 
 /// What was run of one call.
@@ -37,6 +46,19 @@ pub struct Tally {
     /// Damaged questions, by the number that refuses them.
     pub refused: [u64; 14],
     pub library: LibraryTally,
+    pub seconds: Duration,
+    pub large: LargeTally,
+    pub pairs: PairTally,
+}
+
+/// What was run of random builds of 4,096 modules and 65,535 records.
+#[derive(Debug, Clone, Copy, Default)]
+pub struct LargeTally {
+    pub builds: u64,
+    /// Damaged copies.
+    pub damaged: u64,
+    /// The largest P among them.
+    pub most_pairs: usize,
     pub seconds: Duration,
 }
 
@@ -64,12 +86,14 @@ pub struct Run {
     pub disagreements: u64,
     /// What was put to the library of the present call.
     library: LibraryTally,
+    /// The pairs of builds of the present call.
+    pairs: PairTally,
 }
 
 impl Run {
-    /// Runs everything that a plan says.
-    pub fn all(plan: Plan) -> Self {
-        let mut run = Self {
+    /// A run of which nothing is done yet.
+    fn new(plan: Plan) -> Self {
+        Self {
             plan,
             counts: Counts::default(),
             tallies: Vec::new(),
@@ -78,7 +102,13 @@ impl Run {
             not_text: 0,
             disagreements: 0,
             library: LibraryTally::default(),
-        };
+            pairs: PairTally::default(),
+        }
+    }
+
+    /// Runs everything that a plan says.
+    pub fn all(plan: Plan) -> Self {
+        let mut run = Self::new(plan);
         for call in Call::ALL {
             let tally = run.call(call);
             run.tallies.push((call, tally));
@@ -96,17 +126,24 @@ impl Run {
         });
         let count = if call == Call::Chunks { self.plan.builds } else { self.plan.cases };
         for case in 0..count {
-            self.check(&generate::random(call, &mut self.rng(call, case)));
+            let mut rng = self.rng(call, case);
+            let question = generate::random(call, &mut rng);
+            let response = self.check(&question);
+            self.check_pair(&mut rng, &question, &response);
             tally.random += 1;
         }
-        for question in largest::largest(call, &mut self.rng(call, u64::MAX)) {
+        for question in generate::largest::largest(call, &mut self.rng(call, u64::MAX)) {
             self.check(&question);
             tally.largest += 1;
+        }
+        if call == Call::Chunks {
+            self.check_large_builds(&mut tally);
         }
         for case in 0..count / 2 {
             self.check_damaged(call, case, &mut tally);
         }
         tally.library = std::mem::take(&mut self.library);
+        tally.pairs = std::mem::take(&mut self.pairs);
         tally.seconds = begin.elapsed();
         tally
     }
@@ -127,14 +164,14 @@ impl Run {
             match response {
                 Response::Answered(_) => self.check(&case.question),
                 _ => self.check_library(&case.question, &response),
-            }
+            };
             count += 1;
         }
         count
     }
 
-    /// Puts an accepted question to all sides.
-    fn check(&mut self, question: &Question) {
+    /// Puts an accepted question to all sides, and hands back what the library says.
+    fn check(&mut self, question: &Question) -> Response {
         self.asked += 1;
         let expected = Reference.respond(question);
         let callbacks =
@@ -148,13 +185,14 @@ impl Run {
         } else {
             self.expect(Reference.name(), &expected, judge.name(), &response, question);
         }
-        self.check_library(question, &expected);
+        let response = self.check_library(question, &expected);
         if let Response::Answered(answer) = &expected {
             self.counts.note(question.call(), &kinds::of(question, answer));
         }
         if let Question::Chunks(chunks) = question {
             self.check_walk(chunks, question);
         }
+        response
     }
 
     /// An order of walking other than document 01's, by turns.
@@ -199,16 +237,21 @@ impl Run {
         let mut rng = self.rng(call, case ^ 1 << 40);
         let mut question = generate::plain(call, &mut rng);
         if let Some(planted) = damage::damage(&mut rng, &mut question) {
-            let response = Reference.respond(&question);
-            let planted_response = Response::Refused(planted);
-            self.expect("planted", &planted_response, Reference.name(), &response, &question);
-            self.check_library(&question, &planted_response);
-            tally.refused[planted as usize] += 1;
+            self.check_refused(&question, planted, tally);
         }
     }
 
+    /// A damaged question has to be refused with the number that was planted.
+    fn check_refused(&mut self, question: &Question, planted: u32, tally: &mut Tally) {
+        let response = Reference.respond(question);
+        let planted_response = Response::Refused(planted);
+        self.expect("planted", &planted_response, Reference.name(), &response, question);
+        self.check_library(question, &planted_response);
+        tally.refused[planted as usize] += 1;
+    }
+
     /// The library has to say the same and to write nowhere else.
-    fn check_library(&mut self, question: &Question, expected: &Response) {
+    fn check_library(&mut self, question: &Question, expected: &Response) -> Response {
         let response = Library.respond(question);
         match response {
             Response::Answered(_) => self.library.answered += 1,
@@ -217,6 +260,7 @@ impl Run {
             Response::Outside(_) => {}
         }
         self.expect(Reference.name(), expected, Library.name(), &response, question);
+        response
     }
 
     fn expect(

@@ -64,7 +64,7 @@ fn build(chunks: &Chunks) -> Asked {
         Err(number) => Err(*number),
     };
     let after = areas::after(&tables::of_chunks(chunks), outcome, SOUND);
-    asked.warnings.extend(after.differs_from(&areas.words()));
+    asked.warnings.extend(after.differs_from(&areas));
     asked
 }
 
@@ -97,14 +97,33 @@ impl Side for Judge {
 
 #[cfg(test)]
 mod tests {
-    use chunklist::ask_build;
+    use chunklist::{BuildAreas, ask_build};
     use text::{Answer, Call, Question, tables};
 
     use crate::{
         generate,
-        reference::{areas, rules::SOUND},
+        reference::{
+            areas::{self, Words},
+            rules::{Area, SOUND},
+        },
         rng::Rng,
     };
+
+    /// Areas of which one word is changed.
+    struct Changed<'a> {
+        areas: &'a BuildAreas,
+        entry: (usize, usize),
+    }
+
+    impl Words for Changed<'_> {
+        fn length(&self, area: usize) -> usize {
+            self.areas.length(area)
+        }
+
+        fn word(&self, area: usize, place: usize) -> u64 {
+            self.areas.word(area, place) ^ u64::from((area, place) == self.entry)
+        }
+    }
 
     /// Changes one word at a time in the areas of a few builds, past the end too.
     #[test]
@@ -119,12 +138,10 @@ mod tests {
             let asked = ask_build(&chunks);
             let Ok(Answer::Chunks(list)) = &asked.asked.outcome else { continue };
             let after = areas::after(&tables::of_chunks(&chunks), Ok(list), SOUND);
-            let words = asked.areas.words();
-            assert_eq!(after.differs_from(&words), None);
-            for area in 0..words.len() {
-                for place in 0..words[area].len() {
-                    let mut other = words.clone();
-                    other[area][place] ^= 1;
+            assert_eq!(after.differs_from(&asked.areas), None);
+            for area in 0..Area::ALL.len() {
+                for place in 0..asked.areas.length(area) {
+                    let other = Changed { areas: &asked.areas, entry: (area, place) };
                     assert!(after.differs_from(&other).is_some(), "area {area}, entry {place}");
                     changed += 1;
                 }

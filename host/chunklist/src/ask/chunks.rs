@@ -18,6 +18,29 @@ pub struct AskedBuild {
     pub areas: BuildAreas,
 }
 
+/// A whole build laid out for the call: its tables, and areas as long as it says, with a pattern in
+/// them.
+pub struct ReadyBuild {
+    handed: BuildTables,
+    groups: GroupBuf,
+    areas: BuildAreas,
+}
+
+impl ReadyBuild {
+    /// Lays a build out.
+    pub fn new(chunks: &Chunks) -> Self {
+        let handed = tables::of_chunks(chunks);
+        let groups = handed.groups.iter().map(group).collect();
+        let areas = BuildAreas::new(handed.areas);
+        Self { handed, groups, areas }
+    }
+
+    /// Makes the call and does nothing else. Answers 0 or the number of the refusal.
+    pub fn call(&mut self) -> u32 {
+        raw::chunks(&raw_tables(&self.handed, &self.groups), self.areas.lend())
+    }
+}
+
 /// The areas of a whole build.
 #[derive(Debug, Clone)]
 pub struct BuildAreas {
@@ -35,16 +58,15 @@ pub struct BuildAreas {
 
 /// Lends areas as long as a build says, with a pattern in them, calls, and looks at them.
 pub fn ask_build(chunks: &Chunks) -> AskedBuild {
-    let handed = tables::of_chunks(chunks);
-    let groups = handed.groups.iter().map(group).collect();
-    let tables = raw_tables(&handed, &groups);
-    let mut areas = BuildAreas::new(handed.areas);
-    let number = raw::chunks(&tables, areas.lend());
+    let mut ready = ReadyBuild::new(chunks);
+    let number = ready.call();
+    let ReadyBuild { handed, areas, .. } = ready;
+    let n = count(handed.n);
     let asked = if number != 0 {
         Asked::refused(number, areas.untouched())
     } else {
-        let (list, broken) = areas.list(tables.n, tables.on_entry);
-        let mut asked = Asked::answered(Answer::Chunks(list), areas.kept_past(tables.n));
+        let (list, broken) = areas.list(n, count(handed.count_on_entry));
+        let mut asked = Asked::answered(Answer::Chunks(list), areas.kept_past(n));
         asked.warnings.extend(broken);
         asked
     };
@@ -201,19 +223,38 @@ impl BuildAreas {
         Some(modules)
     }
 
-    /// Each area but the count, in the order of the call, as words; where an area still holds its
-    /// pattern, that of words.
-    pub fn words(&self) -> [Vec<u64>; 8] {
-        [
-            self.chunk_of.words(),
-            self.next_of.words(),
-            self.first_of.words(),
-            self.group_of.words(),
-            self.name_of.words(),
-            self.size_of.words(),
-            self.bits_of.words(),
-            self.scratch.words(),
-        ]
+    /// How long an area is. Areas are numbered in the order of the call, without the count.
+    pub fn length(&self, area: usize) -> usize {
+        match area {
+            0 => self.chunk_of.length(),
+            1 => self.next_of.length(),
+            2 => self.first_of.length(),
+            3 => self.group_of.length(),
+            4 => self.name_of.length(),
+            5 => self.size_of.length(),
+            6 => self.bits_of.length(),
+            _ => self.scratch.length(),
+        }
+    }
+
+    /// An item of an area as a word; if it still holds its pattern, that of words.
+    pub fn word(&self, area: usize, place: usize) -> u64 {
+        match area {
+            0 => self.chunk_of.word(place),
+            1 => self.next_of.word(place),
+            2 => self.first_of.word(place),
+            3 => self.group_of.word(place),
+            4 => self.name_of.word(place),
+            5 => self.size_of.word(place),
+            6 => self.bits_of.word(place),
+            _ => self.scratch.word(place),
+        }
+    }
+
+    /// The first place of scratch that holds anything but zero below `zeros`, or but its pattern
+    /// from there on.
+    pub fn scratch_unlike(&self, zeros: usize) -> Option<usize> {
+        self.scratch.unlike(zeros)
     }
 }
 

@@ -34,7 +34,7 @@ pub fn modules(rng: &mut Rng, count: usize, entries: u64) -> Vec<Module> {
 }
 
 /// A module that takes no part may have another's id and order, and any size.
-fn repeat_outside(rng: &mut Rng, modules: &mut [Module]) {
+pub fn repeat_outside(rng: &mut Rng, modules: &mut [Module]) {
     for number in 0..modules.len() {
         if modules[number].flags & 3 != 3 && rng.one_in(2) {
             let other = modules[rng.at(modules.len())].clone();

@@ -11,11 +11,15 @@ pub mod figures;
 pub mod filter;
 pub mod harmless;
 pub mod ids;
+pub mod large_build;
+pub mod large_modules;
+pub mod large_records;
 pub mod largest;
 pub mod largest_build;
 pub mod merge;
 pub mod numbers;
 pub mod records;
+pub mod renumbered;
 pub mod similarity;
 pub mod telling;
 

@@ -14,7 +14,8 @@ pub struct Chains {
 pub fn chains(rng: &mut Rng, modules: usize, most: usize) -> Chains {
     let mut chains = if rng.one_in(2) { tree(rng, modules) } else { tangle(rng, modules, most) };
     if rng.one_in(8) {
-        add_circle(rng, &mut chains, modules);
+        let length = rng.at(3) + 1;
+        add_circle(rng, &mut chains, modules, length);
     }
     if rng.one_in(2) {
         renumber(rng, &mut chains);
@@ -37,9 +38,18 @@ fn tree(rng: &mut Rng, modules: usize) -> Chains {
 
 impl Chains {
     /// Makes a module name another one at the head of its chain.
-    fn add(&mut self, owner: usize, module: usize) {
+    pub fn add(&mut self, owner: usize, module: usize) {
         self.records.push(Record { module: index(module), next: self.first[owner] });
         self.first[owner] = index(self.records.len());
+    }
+
+    /// How long each module's chain is.
+    pub fn lengths(&self) -> impl Iterator<Item = usize> {
+        let next = |at: &usize| (self.records[*at].next as usize).checked_sub(1);
+        let length = move |first: &u32| {
+            std::iter::successors((*first as usize).checked_sub(1), next).count()
+        };
+        self.first.iter().map(length)
     }
 }
 
@@ -68,10 +78,12 @@ fn first_record(rng: &mut Rng, count: usize) -> u32 {
     }
 }
 
-/// A circle of records that no chain enters.
-fn add_circle(rng: &mut Rng, chains: &mut Chains, modules: usize) {
+/// A circle of so many records that no chain enters.
+pub fn add_circle(rng: &mut Rng, chains: &mut Chains, modules: usize, length: usize) {
+    if modules == 0 {
+        return;
+    }
     let from = chains.records.len() + 1;
-    let length = rng.at(3) + 1;
     for place in 0..length {
         let next = from + (place + 1) % length;
         chains.records.push(Record { module: index(rng.at(modules)), next: index(next) });
@@ -79,7 +91,7 @@ fn add_circle(rng: &mut Rng, chains: &mut Chains, modules: usize) {
 }
 
 /// Gives the records other numbers.
-fn renumber(rng: &mut Rng, chains: &mut Chains) {
+pub fn renumber(rng: &mut Rng, chains: &mut Chains) {
     let mut numbers: Vec<usize> = (1..=chains.records.len()).collect();
     rng.shuffle(&mut numbers);
     let new = |old: u32| if old == 0 { 0 } else { index(numbers[old as usize - 1]) };

@@ -1,6 +1,6 @@
 //! What the areas that are lent to Chunks hold after the call, over a pattern before it.
 
-use chunklist::Pattern;
+use chunklist::{BuildAreas, Pattern};
 use text::{ChunkList, tables::BuildTables};
 
 use super::{
@@ -8,42 +8,110 @@ use super::{
     rules::{Area, ReadingFault, Rules},
 };
 
-/// The content of each area in the order of `Area::ALL`, as words; a record's bits are four.
+/// The content of each area as words.
 #[derive(Debug, Clone, PartialEq, Eq)]
-pub struct Areas(Vec<Vec<u64>>);
+pub struct Areas {
+    /// All areas but scratch, in the order of `Area::ALL`; a record's bits are four words.
+    written: Vec<Vec<u64>>,
+    scratch: Scratch,
+}
+
+/// Scratch is too long to be written out: it has zeros up to a place, and from there the pattern.
+#[derive(Debug, Clone, PartialEq, Eq)]
+struct Scratch {
+    length: usize,
+    zeros: usize,
+}
+
+/// Areas that can be held against those of the reading; they are numbered as in `Area::ALL`.
+pub trait Words {
+    fn length(&self, area: usize) -> usize;
+    fn word(&self, area: usize, place: usize) -> u64;
+
+    /// The first place of scratch that holds anything but zero below `zeros`, or but the pattern
+    /// from there on.
+    fn scratch_unlike(&self, zeros: usize) -> Option<usize> {
+        let expected = |place: usize| if place < zeros { 0 } else { u64::at(place) };
+        let scratch = Area::Scratch as usize;
+        (0..self.length(scratch)).find(|place| self.word(scratch, *place) != expected(*place))
+    }
+}
+
+impl Words for BuildAreas {
+    fn length(&self, area: usize) -> usize {
+        Self::length(self, area)
+    }
+
+    fn word(&self, area: usize, place: usize) -> u64 {
+        Self::word(self, area, place)
+    }
+
+    fn scratch_unlike(&self, zeros: usize) -> Option<usize> {
+        Self::scratch_unlike(self, zeros)
+    }
+}
 
 /// The areas after a call. A refused one touches none of them.
 pub fn after(tables: &BuildTables, outcome: Result<&ChunkList, u32>, rules: Rules) -> Areas {
     let [chunk_of, next_of, records, scratch] = tables.areas;
-    let lengths = [chunk_of, next_of, records, records, records, records, 4 * records, scratch];
-    let mut areas = Areas(lengths.map(|length| (0..length).map(u64::at).collect()).to_vec());
+    let lengths = [chunk_of, next_of, records, records, records, records, 4 * records];
+    let mut areas = Areas {
+        written: lengths.map(|length| (0..length).map(u64::at).collect()).to_vec(),
+        scratch: Scratch { length: scratch, zeros: 0 },
+    };
     match outcome {
         Ok(list) => areas.accepted(tables, list, rules),
-        Err(_) => {
-            if let Some(area) = rules.refused_writes() {
-                areas.write(area, 0, 0);
-            }
-        }
+        Err(_) => match rules.refused_writes() {
+            Some(Area::Scratch) => areas.scratch.clear(1),
+            Some(area) => areas.write(area, 0, 0),
+            None => {}
+        },
     }
     areas
 }
 
+impl Words for Areas {
+    fn length(&self, area: usize) -> usize {
+        self.written.get(area).map_or(self.scratch.length, Vec::len)
+    }
+
+    fn word(&self, area: usize, place: usize) -> u64 {
+        match self.written.get(area) {
+            Some(words) => words[place],
+            None if place < self.scratch.zeros => 0,
+            None => u64::at(place),
+        }
+    }
+}
+
+impl Scratch {
+    /// Zeros up to a place, or as far as there is room.
+    fn clear(&mut self, end: usize) {
+        self.zeros = end.min(self.length);
+    }
+}
+
 impl Areas {
-    /// The first entry of areas in the same order that isn't as it is here.
-    pub fn differs_from(&self, other: &[Vec<u64>]) -> Option<String> {
+    /// The first entry of other areas that isn't as it is here.
+    pub fn differs_from(&self, other: &impl Words) -> Option<String> {
         let differs = |area: &Area| {
-            let (here, there) = (&self.0[*area as usize], &other[*area as usize]);
-            let place = (0..here.len().max(there.len())).find(|at| here.get(*at) != there.get(*at));
-            place.map(|place| (*area, place))
+            let at = *area as usize;
+            let end = self.length(at).min(other.length(at));
+            let place = match area {
+                Area::Scratch => other.scratch_unlike(self.scratch.zeros),
+                _ => (0..end).find(|place| self.word(at, *place) != other.word(at, *place)),
+            };
+            let shorter = (self.length(at) != other.length(at)).then_some(end);
+            place.or(shorter).map(|place| (*area, place))
         };
         let (area, place) = Area::ALL.iter().find_map(differs)?;
-        let word = |words: &[Vec<u64>]| format!("{:x?}", words[area as usize].get(place));
-        Some(format!("{area:?}[{place}] is {}, by the reading {}", word(other), word(&self.0)))
+        let (there, here) = (entry(other, area, place), entry(self, area, place));
+        Some(format!("{area:?}[{place}] is {there}, by the reading {here}"))
     }
 
     /// Writes one word, where there is room.
     fn write(&mut self, area: Area, place: usize, word: u64) {
-        if let Some(written) = self.0[area as usize].get_mut(place) {
+        if let Some(written) = self.written[area as usize].get_mut(place) {
             *written = word;
         }
     }
@@ -66,11 +134,8 @@ impl Areas {
             self.write(Area::Size, record, chunk.size.to_bits());
             (0..4).for_each(|word| self.write(Area::Bits, 4 * record + word, chunk.bits[word]));
         }
-        let zeroed = scratch_need(tables, rules) as usize;
         let kept = rules.has(ReadingFault::ScratchKept);
-        let scratch = &mut self.0[Area::Scratch as usize];
-        let end = if kept { zeroed.min(scratch.len()) } else { scratch.len() };
-        scratch[..end].fill(0);
+        self.scratch.clear(if kept { scratch_need(tables, rules) as usize } else { usize::MAX });
         let ends = [n, n, count, count, count, count, 4 * count];
         for (area, end) in Area::ALL.into_iter().zip(ends) {
             if rules.has(ReadingFault::PastEnd(area)) {
@@ -78,4 +143,11 @@ impl Areas {
             }
         }
     }
+}
+
+/// An entry in a message.
+fn entry(areas: &impl Words, area: Area, place: usize) -> String {
+    let area = area as usize;
+    let word = (place < areas.length(area)).then(|| areas.word(area, place));
+    format!("{word:x?}")
 }

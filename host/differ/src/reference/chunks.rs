@@ -1,6 +1,6 @@
 //! The chunk list of a whole build, by document 01's steps 1 to 5.
 
-use std::collections::{BTreeMap, BTreeSet};
+use std::collections::{BTreeMap, BTreeSet, VecDeque};
 
 use text::{Chunk, ChunkList, Filter, tables::BuildTables};
 
@@ -161,16 +161,17 @@ impl Build<'_> {
     }
 
     /// Step 4: takes the items off, one after another.
-    fn convert(&mut self, mut items: Vec<Item>) -> Vec<Chunk> {
+    fn convert(&mut self, items: Vec<Item>) -> Vec<Chunk> {
+        let mut items = VecDeque::from(items);
         let mut chunks = Vec::new();
-        while !items.is_empty() {
-            let item = items.remove(0);
+        while let Some(item) = items.pop_front() {
             if item.modules.is_empty() {
                 self.trace.events.push(Event::Emptied);
             } else if self.is_dropped(&item) {
                 self.trace.events.push(Event::Dropped);
             } else if let Some((left, right)) = self.pieces(&item) {
-                items.splice(0..0, [right, left]);
+                items.push_front(left);
+                items.push_front(right);
             } else {
                 for other in &mut items {
                     self.leave(other, &item.modules);
