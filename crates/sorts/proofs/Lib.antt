@@ -9,3 +9,13 @@ pub mod Steps
 pub mod Copying
 pub mod Halves
 pub mod Naming
+pub mod NeighbourOrder
+pub mod Inserting
+pub mod SortTwice
+pub mod Buckets
+pub mod Counting
+pub mod Sums
+pub mod Dealing
+pub mod DigitOrder
+pub mod Differing
+pub mod Passes
