@@ -1,4 +1,4 @@
--- The laws of merging and of sorted lists, over any order, and what the proofs of the code cite.
+-- The laws of merging, of sorted lists and of sorting by digits, and what the proofs of the code cite.
 pub mod Merging
 pub mod Ascending
 pub mod InOrder
@@ -10,8 +10,11 @@ pub mod Copying
 pub mod Halves
 pub mod Naming
 pub mod NeighbourOrder
-pub mod Inserting
+pub mod InsertOne
+pub mod InsertAll
 pub mod SortTwice
+pub mod TwoNumbers
+pub mod Tables
 pub mod Buckets
 pub mod Counting
 pub mod Sums
