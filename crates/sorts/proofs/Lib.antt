@@ -1,4 +1,4 @@
--- The laws of merging and of sorted lists, over any order, and what the proofs of the code cite.
+-- The laws of merging, of sorted lists and of sorting by digits, and what the proofs of the code cite.
 pub mod Merging
 pub mod Ascending
 pub mod InOrder
@@ -9,3 +9,16 @@ pub mod Steps
 pub mod Copying
 pub mod Halves
 pub mod Naming
+pub mod NeighbourOrder
+pub mod InsertOne
+pub mod InsertAll
+pub mod SortTwice
+pub mod TwoNumbers
+pub mod Tables
+pub mod Buckets
+pub mod Counting
+pub mod Sums
+pub mod Dealing
+pub mod DigitOrder
+pub mod Differing
+pub mod Passes

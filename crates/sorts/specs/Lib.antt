@@ -1,5 +1,8 @@
--- Sorts by merging. Each is stated as equal to the sort by insertion of `lists`.
+-- Sorts. Each is stated as equal to the sort by insertion of `lists`.
 pub mod Merge
 pub mod ById
 pub mod Contract
 pub mod Keys
+pub mod Ascending
+pub mod Digits
+pub mod Insertion

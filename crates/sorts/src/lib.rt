@@ -1,3 +1,6 @@
-// Sorts by merging. Each is stated as equal to the sort by insertion of `lists`, ties in their order.
+// Sorts. Each is stated as equal to the sort by insertion of `lists`, ties in their order.
+mod ascent;
 pub mod by_id;
+mod insertion;
 pub mod numbers;
+mod radix;

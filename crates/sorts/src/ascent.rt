@@ -1,0 +1,16 @@
+// Whether numbers are in ascending order.
+ghost use mathlib.Core.Path.{_≡_};
+ghost use Rattle.sorts.specs.Ascending.{ascending};
+
+pub fn ascends(a: &[u64]) -> bool
+    ensures { λ r. ⌜ r ≡ ascending (now (a .entry)) ⌝ }
+{
+    let mut i = 0;
+    while i + 1 < a.len() {
+        if a[i + 1] < a[i] {
+            return false;
+        }
+        i = i + 1;
+    }
+    true
+}
