@@ -1,8 +1,9 @@
--- The first element of a list in an order: one element more at the end, what holds of each element holds of it, and there is none only of no element.
+-- The first element of a list in an order: one element more at the end, what holds of each element holds of it, there is none only of no element,
+-- and the first of the images is the image of the first.
 use Prim.Native.Nat.{ℕ}
 use mathlib.Core.Bool.{Bool, true, false, cond}
-use mathlib.Core.List.{List, [], _∷_, _++_, foldl}
-use mathlib.Core.Option.{none, some}
+use mathlib.Core.List.{List, [], _∷_, _++_, map, foldl}
+use mathlib.Core.Option.{none, some, Option·map}
 use mathlib.Core.Path.{_≡_, refl, ap, _∙_, subst}
 use native.Mathlib.Omega.{arith}
 use Rattle.lists.specs.Keep.{keep, keepHead}
@@ -46,3 +47,22 @@ module _ {A : Type 0} (before : A → A → Bool) where
     unfolding least
     least-each [] x r e = absurd (let z : _≡_ {A = ℕ} 0 1 = cc in omega arith)
     least-each (y ∷ l) x (more p r) e = let q : foldl (earlier before) y l ≡ x = cc in subst P q (fold-each l y p r)
+
+-- ---- images under a function that keeps the order
+
+module _ {A B : Type 0} (before : A → A → Bool) (after : B → B → Bool) (f : A → B) (same : (x y : A) → after (f x) (f y) ≡ before x y) where
+  image : (x y : A) → earlier after (f x) (f y) ≡ f (earlier before x y)
+  image x y = ap (λ b. cond b (f y) (f x)) (same y x) ∙ pick (before y x)
+    where
+      pick : (b : Bool) → cond b (f y) (f x) ≡ f (cond b y x)
+      pick true = refl
+      pick false = refl
+
+  fold-map : (x : A) (l : List A) → foldl (earlier after) (f x) (map f l) ≡ f (foldl (earlier before) x l)
+  fold-map x [] = refl
+  fold-map x (y ∷ l) = ap (λ z. foldl (earlier after) z (map f l)) (image x y) ∙ fold-map (earlier before x y) l
+
+  pub least-map : (l : List A) → least after (map f l) ≡ Option·map f (least before l)
+  unfolding least
+  least-map [] = refl
+  least-map (x ∷ l) = ap some (fold-map x l)

@@ -11,6 +11,9 @@ pub mod Uniting
 pub mod Moving
 pub mod Joining
 pub mod Next
+pub mod Removing
+pub mod Listing
+pub mod Finding
 pub mod Ending
 pub mod Turning
 pub mod Starting

@@ -1,50 +1,64 @@
--- One more subgroup is looked at: the cases of the order by nearness, and of the best so far.
-use Prim.Native.Nat.{_≤_, _<_}
-use mathlib.Core.Bool.{Bool, true, false}
-use mathlib.Core.Path.{_≡_, sym, ap}
-use borrow.Author.Tests.{lt-ltb, le-ltb}
-use native.Mathlib.Nat.{le-of-lt}
+-- One more is looked at: it takes the place of the best so far, or the best stays.
+use Prim.Native.Nat.{ℕ, _≤_, _<_}
+use mathlib.Core.Bool.{Bool, true, false, cond, true≢false, false≢true}
+use mathlib.Core.Option.{some, none}
+use mathlib.Core.Path.{_≡_, refl, sym, ap, _∙_}
+use borrow.Author.Tests.{lt-ltb, le-ltb, ltb-true}
+use native.Mathlib.Omega.{arith}
+use lib.Dec.{ltb}
 use Rattle.bitset.specs.Entries.{differing}
-use Rattle.merge.specs.Subgroup.{Subgroup, smaller, nearer}
-use Rattle.merge.specs.Search.{held, foundOf, looked}
-use Rattle.merge.specs.declared.subgroup.Subgroup.{Subgroup as Held}
+use Rattle.bitset.specs.declared.entries.BitSet.{BitSet}
+use Rattle.bitset.proofs.Words.{Words}
+use Rattle.bitset.proofs.Differing.{differing-ones}
+use Rattle.merge.specs.Search.{comesFirst, firstOnes, foundOf, givesWay, nearerThan, looked}
+use Rattle.merge.specs.declared.candidate.Candidate.{Candidate}
 use Rattle.merge.specs.declared.search.Best.{Best}
 
--- ---- nearer to s: a or b
+abbrev newBest : Candidate → Best
+newBest x = record { found = true; candidate = x }
 
-module _ (s a b : Subgroup) where
-  pub fewer : differing (s .bits) (a .bits) < differing (s .bits) (b .bits) → nearer s a b ≡ true
-  unfolding nearer
-  fewer h = rw (lt-ltb (differing (s .bits) (a .bits)) (differing (s .bits) (b .bits)) h)
+-- ---- by whether there is a best
 
-  pub more : differing (s .bits) (b .bits) < differing (s .bits) (a .bits) → nearer s a b ≡ false
-  unfolding nearer
-  more h =
-      rw (le-ltb (differing (s .bits) (a .bits)) (differing (s .bits) (b .bits)) (le-of-lt h), lt-ltb (differing (s .bits) (b .bits)) (differing (s .bits) (a .bits)) h)
-
-  pub as-many : differing (s .bits) (b .bits) ≤ differing (s .bits) (a .bits) → differing (s .bits) (a .bits) ≤ differing (s .bits) (b .bits) → nearer s a b ≡ smaller a b
-  unfolding nearer
-  as-many h k =
-      rw (le-ltb (differing (s .bits) (a .bits)) (differing (s .bits) (b .bits)) h, le-ltb (differing (s .bits) (b .bits)) (differing (s .bits) (a .bits)) k)
-
--- ---- the best so far b, and one more x: whether x is looked for, whether there is a best, and whether x comes before it
-
-abbrev newBest : Held → Best
-newBest x = record { found = true; subgroup = x }
-
-module _ (before : Subgroup → Subgroup → Bool) (b : Best) (x : Held) (t : Bool) where
-  pub passed-over : t ≡ false → foundOf b ≡ looked before t (foundOf b) (held x)
+module _ (c x : Candidate) where
+  stays-of : (f : Bool) → cond f (comesFirst x c) true ≡ false → (t : Bool) → cond f (some c) none ≡ looked comesFirst t (cond f (some c) none) x
   unfolding looked
-  passed-over e = ap (λ t. looked before t (foundOf b) (held x)) (sym e)
+  stays-of true e true = ap some (ap (λ b. cond b x c) (sym e))
+  stays-of true e false = refl
+  stays-of false e t = absurd (true≢false e)
 
-  pub first : t ≡ true → b .found ≡ false → foundOf (newBest x) ≡ looked before t (foundOf b) (held x)
-  unfolding looked foundOf
-  first e n = rw (e, n)
+  takes-of : (f : Bool) → cond f (comesFirst x c) true ≡ true → some x ≡ looked comesFirst true (cond f (some c) none) x
+  unfolding looked
+  takes-of true e = ap some (ap (λ b. cond b x c) (sym e))
+  takes-of false e = refl
 
-  pub comes-before : t ≡ true → b .found ≡ true → before (held x) (held (b .subgroup)) ≡ true → foundOf (newBest x) ≡ looked before t (foundOf b) (held x)
-  unfolding looked foundOf
-  comes-before e n q = rw (e, n, q)
+  -- n entries are at most those of x, and more than those of c
+  farther : (n : ℕ) → n ≤ x .distance → c .distance < n → comesFirst x c ≡ false
+  unfolding comesFirst
+  farther n h l = rw (le-ltb (x .distance) (c .distance) (omega arith), lt-ltb (c .distance) (x .distance) (omega arith))
 
-  pub stays : t ≡ true → b .found ≡ true → before (held x) (held (b .subgroup)) ≡ false → foundOf b ≡ looked before t (foundOf b) (held x)
-  unfolding looked foundOf
-  stays e n q = rw (e, n, q)
+  farther-of : (n : ℕ) → n ≤ x .distance → (f : Bool) → cond f (ltb (c .distance) n) false ≡ true → cond f (comesFirst x c) true ≡ false
+  farther-of n h true e = farther n h (ltb-true (c .distance) n e)
+  farther-of n h false e = absurd (false≢true e)
+
+-- ---- the best so far b, and one more x
+
+module _ (b : Best) (x : Candidate) where
+  pub stays : givesWay b x ≡ false → (t : Bool) → foundOf b ≡ looked comesFirst t (foundOf b) x
+  unfolding foundOf givesWay
+  stays e t = stays-of (b .candidate) x (b .found) e t
+
+  pub passed-over : (t : Bool) → t ≡ false → foundOf b ≡ looked comesFirst t (foundOf b) x
+  unfolding looked
+  passed-over t e = ap (λ t. looked comesFirst t (foundOf b) x) (sym e)
+
+  pub takes-over : givesWay b x ≡ true → (t : Bool) → t ≡ true → foundOf (newBest x) ≡ looked comesFirst t (foundOf b) x
+  unfolding foundOf givesWay
+  takes-over e t q = takes-of (b .candidate) x (b .found) e ∙ ap (λ t. looked comesFirst t (foundOf b) x) (sym q)
+
+  pub far-away : (n : ℕ) → n ≤ x .distance → nearerThan b n ≡ true → givesWay b x ≡ false
+  unfolding givesWay nearerThan
+  far-away n h e = farther-of (b .candidate) x n h (b .found) e
+
+-- the first words alone tell two sets apart by no more entries than all four
+pub first-at-most : {a b : BitSet} → Words a → Words b → firstOnes a b ≤ differing a b
+first-at-most p q = omega (arith, differing-ones p q)

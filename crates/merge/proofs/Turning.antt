@@ -1,59 +1,138 @@
 -- One turn of the engine, and the turns one after the other: from the state after a turn the rest of the merge is the same.
-use Prim.Native.Nat.{ℕ, zero, suc}
-use mathlib.Core.Bool.{true, false, cond, true≢false, false≢true}
-use mathlib.Core.List.{List}
-use mathlib.Core.Option.{Option, none, some}
-use mathlib.Core.Path.{_≡_, refl, sym, ap, _∙_}
+use Prim.Native.Nat.{ℕ, zero, suc, _*_, _-_, _^_, _<_, _≤_}
+use mathlib.Core.Bool.{true, false, not, cond, true≢false, false≢true}
+use mathlib.Core.List.{List, _++_, map, List·Memᴰ}
+use mathlib.Core.Option.{none, some}
+use mathlib.Core.Path.{_≡_, refl, sym, ap, _∙_, subst}
+use native.Mathlib.Omega.{arith}
+use lib.Dec.{eqb}
 use lib.Ieee.{Float}
+use lib.ListN.{length, getD, take, drop}
+use lib.Seq.{length-take-le, take-append-le}
 use Rattle.lists.specs.Keep.{keep}
 use Rattle.lists.specs.Least.{least}
+use Rattle.lists.proofs.Distinct.{Distinct}
+use Rattle.lists.proofs.Members.{keep-mem}
 use Rattle.merge.specs.Subgroup.{Subgroup, seeks, smaller, nearer}
 use Rattle.merge.specs.Merge.{Merging, Join, stop, joins, others, nextJoin, follow, mergeSteps}
-use Rattle.merge.specs.Search.{held, foundOf}
-use Rattle.merge.specs.Engine.{thereIn, stateOf, Sound, Joinable, JoinedTables, makesJoin, Turn}
+use Rattle.merge.specs.Tables.{subgroupAt}
+use Rattle.merge.specs.Search.{seeking, comesFirst, seekerAt, targetAt, foundOf, Readable}
+use Rattle.merge.specs.Engine.{listed, thereIn, stateOf, Sound, InRow, Standing, Joinable, JoinedTables, makesJoin, Turn}
 use Rattle.merge.specs.declared.search.Best.{Best}
-use Rattle.merge.proofs.Next.{no-seeker, no-target, next-join, can-join}
+use Rattle.merge.proofs.There.{in-row, small-size}
+use Rattle.merge.proofs.Next.{no-seeker, no-target, next-join, seeker-is, target-is, standing, can-join}
 use Rattle.merge.proofs.Joining.{joined-state, joined-sound}
+use Rattle.merge.proofs.Removing.{butOne}
+use Rattle.merge.proofs.Listing.{listed-distinct, listed-in, readable, listed-joined}
+use Rattle.merge.proofs.Finding.{seeker-found, no-seeker-found, target-found, no-target-found}
 
-pub found-none : (b : Best) → b .found ≡ false → foundOf b ≡ none
+found-none : (b : Best) → b .found ≡ false → foundOf b ≡ none
 unfolding foundOf
-found-none b e = ap (λ f. cond f (some (held (b .subgroup))) none) e
+found-none b e = ap (λ f. cond f (some (b .candidate)) none) e
 
-pub found-one : (b : Best) → b .found ≡ true → foundOf b ≡ some (held (b .subgroup))
+found-one : (b : Best) → b .found ≡ true → foundOf b ≡ some (b .candidate)
 unfolding foundOf
-found-one b e = ap (λ f. cond f (some (held (b .subgroup))) none) e
+found-one b e = ap (λ f. cond f (some (b .candidate)) none) e
 
 -- ---- one turn
 
-module _ (threshold : Float) (numbers sizes bits : List ℕ) (sound : Sound numbers sizes bits) where
-  stands : nextJoin threshold (thereIn numbers sizes bits) ≡ stop → Turn threshold false numbers sizes bits numbers sizes bits
-  stands e = record {
+module _ (threshold : Float) (numbers sizes bits there : List ℕ) (sound : Sound numbers sizes bits) (is : there ≡ listed numbers) where
+  stands : nextJoin threshold (thereIn numbers sizes bits) ≡ stop → (l : List ℕ) → Turn threshold false numbers sizes bits there numbers sizes bits l
+  stands e l = record {
     answer = sym (ap makesJoin e);
     state = sym (ap (λ j. follow j (stateOf numbers sizes bits) (λ m. m)) e);
     sound = sound;
+    list = λ m. absurd (false≢true m);
   }
 
-  -- the seeker and the target, as the two searches found them
-  module _ (seeker : Option Subgroup) (is-s : seeker ≡ least smaller (keep (seeks threshold) (thereIn numbers sizes bits))) where
-    pub turn-without-seeker : seeker ≡ none → Turn threshold false numbers sizes bits numbers sizes bits
-    turn-without-seeker e = stands (no-seeker threshold (thereIn numbers sizes bits) (sym is-s ∙ e))
+  pub reads-all : Readable there sizes
+  reads-all = readable (sound .tables) there (λ i m. subst (List·Memᴰ i) is m)
 
-    module _ (s : Subgroup) (e : seeker ≡ some s) (target : Option Subgroup) (is-t : target ≡ least (nearer s) (others s (thereIn numbers sizes bits))) where
-      pub turn-without-target : target ≡ none → Turn threshold false numbers sizes bits numbers sizes bits
-      turn-without-target q = stands (no-target threshold (thereIn numbers sizes bits) s (sym is-s ∙ e) (sym is-t ∙ q))
+  -- what the search for a seeker found
+  module _ (b : Best) (is-b : foundOf b ≡ least comesFirst (keep (seeking threshold) (map (seekerAt sizes) there))) where
+    among : foundOf b ≡ least comesFirst (keep (seeking threshold) (map (seekerAt sizes) (listed numbers)))
+    among = is-b ∙ ap (λ l. least comesFirst (keep (seeking threshold) (map (seekerAt sizes) l))) is
 
-      module _ (t : Subgroup) (q : target ≡ some t) where
-        pub join-fits : Joinable s t numbers sizes bits
-        join-fits = can-join numbers sizes bits threshold s t (sound .tables) (sym is-s ∙ e) (sym is-t ∙ q)
+    pub turn-without-seeker : b .found ≡ false → Turn threshold false numbers sizes bits there numbers sizes bits there
+    turn-without-seeker e =
+        stands (no-seeker threshold (thereIn numbers sizes bits) (no-seeker-found sizes bits numbers threshold (sym among ∙ found-none b e))) there
 
-        pub turn-with-join : (n z b : List ℕ) → JoinedTables s t numbers sizes bits n z b → Turn threshold true numbers sizes bits n z b
-        turn-with-join n z b after =
-            let next = next-join threshold (thereIn numbers sizes bits) s (sym is-s ∙ e) t (sym is-t ∙ q) in
-            record {
-              answer = sym (ap makesJoin next);
-              state = joined-state s t numbers sizes bits join-fits n z b after ∙ sym (ap (λ j. follow j (stateOf numbers sizes bits) (λ m. m)) next);
-              sound = joined-sound s t numbers sizes bits join-fits n z b after sound;
-            }
+    module _ (e : b .found ≡ true) where
+      abbrev from : ℕ
+      from = b .candidate .number
+
+      seeker : least smaller (keep (seeks threshold) (thereIn numbers sizes bits)) ≡ some (subgroupAt sizes bits from)
+      seeker = seeker-found sizes bits numbers threshold (b .candidate) (sym among ∙ found-one b e)
+
+      pub seeker-stands : Standing numbers sizes bits (subgroupAt sizes bits from)
+      seeker-stands = seeker-is threshold (thereIn numbers sizes bits) (subgroupAt sizes bits from) seeker (Standing numbers sizes bits) (standing numbers sizes bits) .0
+
+      pub seeker-row : (from < length numbers) × InRow sizes bits from × (getD sizes from 0 ≤ 2 ^ 53)
+      unfolding subgroupAt
+      seeker-row =
+          let h = seeker-stands .inside in
+          (h, in-row (sound .tables) from h, small-size (sound .tables) from h)
+
+      pub seeker-listed : Distinct there × List·Memᴰ from there
+      unfolding subgroupAt
+      seeker-listed =
+          (subst Distinct (sym is) (listed-distinct numbers), subst (List·Memᴰ from) (sym is) (listed-in numbers from (seeker-stands .inside) (seeker-stands .still)))
+
+      -- the seeker s, and what is left of the list
+      module _ (s : Subgroup) (is-s : s ≡ subgroupAt sizes bits from) (left : List ℕ) (is-left : left ≡ butOne from there) where
+        s-found : least smaller (keep (seeks threshold) (thereIn numbers sizes bits)) ≡ some s
+        s-found = seeker ∙ ap some (sym is-s)
+
+        left-is : left ≡ butOne (s .number) (listed numbers)
+        unfolding subgroupAt
+        left-is = is-left ∙ ap (butOne from) is ∙ ap (λ u. butOne (u .number) (listed numbers)) (sym is-s)
+
+        pub reads-left : Readable left sizes × (4 * length sizes ≤ length bits)
+        reads-left = (
+          readable (sound .tables) left (λ i m. keep-mem (λ n. not (eqb n (s .number))) (listed numbers) i (subst (List·Memᴰ i) left-is m) .0),
+          omega (arith, sound .tables .sizes-fit, sound .tables .bits-fit),
+        )
+
+        -- what the search for its target found
+        module _ (d : Best) (is-d : foundOf d ≡ least comesFirst (map (targetAt sizes bits (s .bits)) left)) where
+          among-left : foundOf d ≡ least comesFirst (map (targetAt sizes bits (s .bits)) (butOne (s .number) (listed numbers)))
+          among-left = is-d ∙ ap (λ l. least comesFirst (map (targetAt sizes bits (s .bits)) l)) left-is
+
+          pub turn-without-target : d .found ≡ false → (l : List ℕ) → Turn threshold false numbers sizes bits there numbers sizes bits l
+          turn-without-target q l =
+              stands (no-target threshold (thereIn numbers sizes bits) s s-found
+              (no-target-found sizes bits numbers threshold s s-found (sym among-left ∙ found-none d q))) l
+
+          module _ (q : d .found ≡ true) where
+            abbrev to : ℕ
+            to = d .candidate .number
+
+            target : least (nearer s) (others s (thereIn numbers sizes bits)) ≡ some (subgroupAt sizes bits to)
+            target = target-found sizes bits numbers threshold s s-found (d .candidate) (sym among-left ∙ found-one d q)
+
+            pub target-row : InRow sizes bits to × (getD sizes to 0 ≤ 2 ^ 53)
+            unfolding subgroupAt
+            target-row =
+                let h = target-is threshold (thereIn numbers sizes bits) s s-found (subgroupAt sizes bits to) target (Standing numbers sizes bits) (standing numbers sizes bits) .0 .inside in
+                (in-row (sound .tables) to h, small-size (sound .tables) to h)
+
+            module _ (t : Subgroup) (is-t : t ≡ subgroupAt sizes bits to) where
+              t-found : least (nearer s) (others s (thereIn numbers sizes bits)) ≡ some t
+              t-found = target ∙ ap some (sym is-t)
+
+              pub join-fits : Joinable s t numbers sizes bits
+              join-fits = can-join numbers sizes bits threshold s t (sound .tables) s-found t-found
+
+              pub turn-with-join : (n z w l : List ℕ) → JoinedTables s t numbers sizes bits n z w → take (length there - 1) l ≡ left
+                  → Turn threshold true numbers sizes bits there n z w l
+              turn-with-join n z w l after short =
+                  let next = next-join threshold (thereIn numbers sizes bits) s s-found t t-found in
+                  record {
+                    answer = sym (ap makesJoin next);
+                    state = joined-state s t numbers sizes bits join-fits n z w after ∙ sym (ap (λ j. follow j (stateOf numbers sizes bits) (λ m. m)) next);
+                    sound = joined-sound s t numbers sizes bits join-fits n z w after sound;
+                    list = λ m. short ∙ left-is ∙ sym (listed-joined s t numbers sizes bits join-fits n z w after);
+                  }
 
 -- ---- turns one after the other
 
@@ -65,18 +144,25 @@ none-made : (j : Join) (m : Merging) (rest : Merging → Merging) → false ≡ 
 none-made stop m rest e = refl
 none-made (joins s t) m rest e = absurd (false≢true e)
 
-module _ (threshold : Float) (n z b n′ z′ b′ : List ℕ) where
+module _ (threshold : Float) (n z b l n′ z′ b′ l′ : List ℕ) where
   -- after a join there is one turn less to go
-  pub turn-more : Turn threshold true n z b n′ z′ b′ → (left : ℕ) → mergeSteps left threshold (stateOf n′ z′ b′) ≡ mergeSteps (suc left) threshold (stateOf n z b)
+  pub turn-more : Turn threshold true n z b l n′ z′ b′ l′ → (left : ℕ) → mergeSteps left threshold (stateOf n′ z′ b′) ≡ mergeSteps (suc left) threshold (stateOf n z b)
   unfolding mergeSteps
   turn-more turn left =
       ap (mergeSteps left threshold) (turn .state) ∙ sym (made (nextJoin threshold (thereIn n z b)) (stateOf n z b) (mergeSteps left threshold) (turn .answer))
 
   -- without one the merge is done, however many turns are left
-  pub turn-last : Turn threshold false n z b n′ z′ b′ → (left : ℕ) → stateOf n′ z′ b′ ≡ mergeSteps left threshold (stateOf n z b)
+  pub turn-last : Turn threshold false n z b l n′ z′ b′ l′ → (left : ℕ) → stateOf n′ z′ b′ ≡ mergeSteps left threshold (stateOf n z b)
   unfolding mergeSteps
   turn-last turn zero = turn .state ∙ none-made (nextJoin threshold (thereIn n z b)) (stateOf n z b) (λ m. m) (turn .answer)
   turn-last turn (suc left) =
       turn .state
       ∙ none-made (nextJoin threshold (thereIn n z b)) (stateOf n z b) (λ m. m) (turn .answer)
       ∙ sym (none-made (nextJoin threshold (thereIn n z b)) (stateOf n z b) (mergeSteps left threshold) (turn .answer))
+
+-- the list after a join, where its first `left` numbers were lent
+pub list-less : (l part n : List ℕ) (left : ℕ) → left ≤ length l → length part ≡ length (take left l) → take (length (take left l) - 1) part ≡ listed n
+    → take (left - 1) (part ++ drop left l) ≡ listed n
+list-less l part n left h e q =
+    let same : length (take left l) ≡ left = length-take-le left l h in
+    take-append-le (left - 1) part (drop left l) (omega arith) ∙ ap (λ k. take (k - 1) part) (sym same) ∙ q

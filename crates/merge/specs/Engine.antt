@@ -1,5 +1,5 @@
 -- What the engine's tables say between two joins: a subgroup is still there just where its number is its own.
-use Prim.Native.Nat.{ℕ, _+_, _*_, _<_, _≤_}
+use Prim.Native.Nat.{ℕ, _+_, _*_, _-_, _<_, _≤_}
 use mathlib.Core.Bool.{Bool, true, false, cond}
 use mathlib.Core.List.{List, [], _∷_, _++_, map}
 use mathlib.Core.Path.{_≡_}
@@ -17,6 +17,11 @@ use Rattle.merge.specs.Search.{vanished}
 
 abbrev pub isThere : List ℕ → ℕ → Bool
 isThere numbers i = eqb (getD numbers i 0) i
+
+-- the numbers of the subgroups that are still there, ascending
+unfoldable pub listed : List ℕ → List ℕ
+unfolding keep range
+listed numbers = keep (isThere numbers) (range 0 (length numbers))
 
 -- the subgroups that are still there, by ascending number
 unfoldable pub thereIn : List ℕ → List ℕ → List ℕ → List Subgroup
@@ -79,11 +84,12 @@ abbrev pub makesJoin : Join → Bool
 makesJoin stop = false
 makesJoin (joins s t) = true
 
--- the next join was made, if there is one
-pub record Turn (threshold : Float) (made : Bool) (numbers sizes bits numbers′ sizes′ bits′ : List ℕ) : Type 0 where
+-- the next join was made, if there is one; then the list of those still there has one number less
+pub record Turn (threshold : Float) (made : Bool) (numbers sizes bits there numbers′ sizes′ bits′ there′ : List ℕ) : Type 0 where
   pub answer : made ≡ makesJoin (nextJoin threshold (thereIn numbers sizes bits))
   pub state : stateOf numbers′ sizes′ bits′ ≡ follow (nextJoin threshold (thereIn numbers sizes bits)) (stateOf numbers sizes bits) (λ m. m)
   pub sound : Sound numbers′ sizes′ bits′
+  pub list : made ≡ true → take (length there - 1) there′ ≡ listed numbers′
 
 -- all joins were made, at most one for each subgroup
 pub record Turns (threshold : Float) (numbers sizes bits numbers′ sizes′ bits′ : List ℕ) : Type 0 where

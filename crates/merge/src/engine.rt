@@ -1,14 +1,17 @@
-// The plain engine: joins one after the other, each found by looking through all subgroups afresh.
+// The plain engine: joins one after the other, each found by looking afresh through all subgroups that are still there.
+use crate::list::remove;
 use crate::search::find_seeker;
 use crate::search::find_target;
 use crate::subgroup::Subgroup;
 use crate::tables::rename;
 use crate::tables::store;
+use crate::tables::subgroup_at;
 ghost use mathlib.Core.Path.{_≡_};
 ghost use lib.ListN.{length};
+ghost use Rattle.lists.specs.Range.{range};
 ghost use Rattle.merge.specs.Tables.{Mergeable, mergeOf};
 ghost use Rattle.merge.specs.Search.{held};
-ghost use Rattle.merge.specs.Engine.{Sound, Joinable, JoinedTables, Turn, Turns, Final};
+ghost use Rattle.merge.specs.Engine.{listed, Sound, Joinable, JoinedTables, Turn, Turns, Final};
 
 // The seeker joins the target: whatever had its number has the target's, and its row is left as zeros.
 fn join(
@@ -28,31 +31,51 @@ fn join(
     store(sizes, bits, seeker.vanished());
 }
 
-// Makes the next join, if there is one. Answers whether there was.
-fn join_next(numbers: &mut [u32], sizes: &mut [u64], bits: &mut [u64], threshold: f64) -> bool
-    requires { ⌜ Sound (now numbers) (now sizes) (now bits) ⌝ }
-    ensures { λ r. ⌜ Turn threshold r (now (numbers .entry)) (now (sizes .entry)) (now (bits .entry)) (now (numbers .exit)) (now (sizes .exit)) (now (bits .exit)) ⌝ }
+// Makes the next join, if there is one, and takes the seeker off the list. Answers whether there was.
+fn join_next(
+    numbers: &mut [u32],
+    sizes: &mut [u64],
+    bits: &mut [u64],
+    there: &mut [u32],
+    threshold: f64,
+) -> bool
+    requires { ⌜ Sound (now numbers) (now sizes) (now bits) × (now there ≡ listed (now numbers)) ⌝ }
+    ensures { λ r. ⌜ Turn threshold r (now (numbers .entry)) (now (sizes .entry)) (now (bits .entry)) (now (there .entry))
+        (now (numbers .exit)) (now (sizes .exit)) (now (bits .exit)) (now (there .exit)) ⌝ }
 {
-    let seeker = find_seeker(numbers, sizes, bits, threshold);
+    let seeker = find_seeker(there, sizes, threshold);
     if !seeker.found {
         return false;
     }
-    let target = find_target(numbers, sizes, bits, seeker.subgroup);
+    let from = seeker.candidate.number;
+    let joining = subgroup_at(sizes, bits, from);
+    remove(there, from as u32);
+    let left = there.len() - 1;
+    let target = find_target(&there[..left], sizes, bits, joining.bits);
     if !target.found {
         return false;
     }
-    join(numbers, sizes, bits, seeker.subgroup, target.subgroup);
+    let joined = subgroup_at(sizes, bits, target.candidate.number);
+    join(numbers, sizes, bits, joining, joined);
     true
 }
 
-// Makes joins until there is none left to make. A join leaves one subgroup less, so that there are fewer joins than subgroups.
-fn join_all(numbers: &mut [u32], sizes: &mut [u64], bits: &mut [u64], threshold: f64)
-    requires { ⌜ Sound (now numbers) (now sizes) (now bits) ⌝ }
+// Lists all numbers, and makes joins until there is none left to make. A join leaves one subgroup less, so that there are fewer joins than
+// subgroups.
+fn join_all(
+    numbers: &mut [u32],
+    sizes: &mut [u64],
+    bits: &mut [u64],
+    there: &mut [u32],
+    threshold: f64,
+)
+    requires { ⌜ Sound (now numbers) (now sizes) (now bits) × (now numbers ≡ range 0 (length (now there))) ⌝ }
     ensures { λ _. ⌜ Turns threshold (now (numbers .entry)) (now (sizes .entry)) (now (bits .entry)) (now (numbers .exit)) (now (sizes .exit)) (now (bits .exit)) ⌝ }
 {
-    let mut left = numbers.len();
+    lists::fill_range(there);
+    let mut left = there.len();
     while 0 < left {
-        if !join_next(numbers, sizes, bits, threshold) {
+        if !join_next(numbers, sizes, bits, &mut there[..left], threshold) {
             return;
         }
         left = left - 1;
@@ -65,10 +88,12 @@ pub fn merge_in_place(numbers: &mut [u32], sizes: &mut [u64], bits: &mut [u64], 
     ensures { λ _. ⌜ Final (length (now (numbers .entry))) (mergeOf (length (now (numbers .entry))) (now (sizes .entry)) (now (bits .entry)) threshold) (now (numbers .exit)) (now (sizes .exit)) (now (bits .exit)) ⌝ }
 {
     lists::fill_range(numbers);
-    if numbers.len() <= 1 {
+    let count = numbers.len();
+    if count <= 1 {
         return;
     }
     if 0.0 < threshold {
-        join_all(numbers, sizes, bits, threshold);
+        let mut there = [0u32; 4096];
+        join_all(numbers, sizes, bits, &mut there[..count], threshold);
     }
 }

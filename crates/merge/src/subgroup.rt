@@ -1,7 +1,6 @@
-// One subgroup by value, and the two orders that a join goes by.
+// One subgroup by value, and the two that a join leaves.
 use bitset::entries::BitSet;
 ghost use mathlib.Core.Path.{_≡_};
-ghost use Rattle.merge.specs.Subgroup.{seeks, smaller, nearer};
 ghost use Rattle.merge.specs.Merge.{united};
 ghost use Rattle.merge.specs.Search.{held, vanished};
 
@@ -12,45 +11,6 @@ pub struct Subgroup {
 }
 
 impl Subgroup {
-    // 0 < size < threshold: a size of 0 never seeks.
-    pub fn seeks(self, threshold: f64) -> bool
-        ensures { λ r. ⌜ r ≡ seeks threshold (held self) ⌝ }
-    {
-        if 0.0 < self.size {
-            return self.size < threshold;
-        }
-        false
-    }
-
-    // The smallest size first, then the lowest number.
-    pub fn is_smaller(self, other: Subgroup) -> bool
-        ensures { λ r. ⌜ r ≡ smaller (held self) (held other) ⌝ }
-    {
-        if self.size < other.size {
-            return true;
-        }
-        if other.size < self.size {
-            return false;
-        }
-        self.number < other.number
-    }
-
-    // Nearer to the seeker than another: the fewest entries held by exactly one of the two, then the smaller.
-    pub fn is_nearer(self, other: Subgroup, seeker: Subgroup) -> bool
-        ensures { λ r. ⌜ r ≡ nearer (held seeker) (held self) (held other) ⌝ }
-    {
-        let wanted = seeker.bits;
-        let mine = wanted.symmetric_difference_count(self.bits);
-        let others = wanted.symmetric_difference_count(other.bits);
-        if mine < others {
-            return true;
-        }
-        if others < mine {
-            return false;
-        }
-        self.is_smaller(other)
-    }
-
     // The target once this subgroup has joined it: the target's number, sizes added as doubles, bits united.
     pub fn joined_to(self, target: Subgroup) -> Subgroup
         ensures { λ r. ⌜ held r ≡ united (held self) (held target) ⌝ }

@@ -8,9 +8,19 @@ ghost use mathlib.Core.List.{map};
 ghost use Prim.Native.Nat.{_*_, _+_, _≤_, _<_, _^_};
 ghost use lib.ListN.{length, getD};
 ghost use lib.Ieee.{binary64, inUnsigned};
+ghost use Rattle.whole.specs.Double.{toF64};
 ghost use Rattle.merge.specs.Tables.{subgroupAt};
 ghost use Rattle.merge.specs.Search.{held};
 ghost use Rattle.merge.specs.Engine.{renamed, withSize, withRow, withBits, InRow};
+
+// The size of row i as a double. It is at most 2^53, so that it is an i64 too, which becomes a double in one step.
+pub fn size_at(sizes: &[u64], i: usize) -> f64
+    requires { ⌜ i < length (now sizes) ⌝ }
+    requires { ⌜ getD (now sizes) i 0 ≤ 2 ^ 53 ⌝ }
+    ensures { λ r. ⌜ r ≡ toF64 (getD (now (sizes .entry)) i 0) ⌝ }
+{
+    sizes[i] as i64 as f64
+}
 
 // Subgroup i, its size as a double.
 pub fn subgroup_at(sizes: &[u64], bits: &[u64], i: usize) -> Subgroup
@@ -20,7 +30,7 @@ pub fn subgroup_at(sizes: &[u64], bits: &[u64], i: usize) -> Subgroup
 {
     Subgroup {
         number: i,
-        size: sizes[i] as f64,
+        size: size_at(sizes, i),
         bits: row(bits, i),
     }
 }

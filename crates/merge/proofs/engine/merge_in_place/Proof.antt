@@ -1,9 +1,12 @@
 -- The numbers are filled with the definition's start; then the merge is done, or all turns are taken.
 use mathlib.Core.Path.{sym, ap, _∙_}
-use borrow.Author.Needs.{needs}
+use native.Mathlib.Omega.{arith}
 use lib.Ieee.{lt}
+use lib.Seq.{length-take-le}
+use Rattle.lists.specs.Range.{range}
 use Rattle.merge.proofs.Doubles.{zero-double}
 use Rattle.merge.proofs.Starting.{start-sound, done-too-few, done-no-threshold, done-turns}
+use borrow.Author.Needs.{needs}
 use Rattle.merge.proofs.engine.merge_in_place.Statement.{statement}
 use Rattle.merge.proofs.engine.merge_in_place.Tie as tie
 
@@ -15,15 +18,26 @@ same-length c = search needs
 
 returns : tie.Need-returns
 returns c =
-    let f = c .before .before .before in
-    let s = f .before .before .before .before .before in
-    done-too-few (s .args .numbers .now) (s .args .sizes .now) (s .args .bits .now) (s .pre) (f .fill-range .last .0) (f .fill-range .ensures) (s .args .threshold) (c .if1 .taken)
+    let f = c .before .before .before .fill-range in
+    let s = c .before .before .before .before .before .before .before .before in
+    done-too-few (s .args .numbers .now) (s .args .sizes .now) (s .args .bits .now) (s .pre) (f .last .0) (f .ensures) (s .args .threshold) (c .if1 .taken)
+
+array-borrow-prefix-there : tie.Need-array-borrow-prefix-there
+array-borrow-prefix-there c = search needs
+
+slice-aggregate-join-all : tie.Need-slice-aggregate-join-all
+slice-aggregate-join-all c =
+    let f = c .before .before .before .before .before .before .before .before .fill-range in
+    let s = c .before .before .before .before .before .before .before .before .before .before .before .before .before in
+    sym (length-take-le _ _ (omega (arith, f .kept .0, s .pre .count)))
 
 join-all-requires : tie.Need-join-all-requires
 join-all-requires c κs =
-    let f = c .before .before .before .before .before .before .before in
-    let s = f .before .before .before .before .before in
-    start-sound (s .args .numbers .now) (s .args .sizes .now) (s .args .bits .now) (s .pre) (f .fill-range .last .0) (f .fill-range .ensures)
+    let f = c .before .before .before .before .before .before .before .before .fill-range in
+    let s = c .before .before .before .before .before .before .before .before .before .before .before .before .before in (
+      start-sound (s .args .numbers .now) (s .args .sizes .now) (s .args .bits .now) (s .pre) (f .last .0) (f .ensures),
+      f .ensures ∙ ap (range 0) (sym (f .kept .0) ∙ slice-aggregate-join-all c),
+    )
 
 same-length-2 : tie.Need-same-length-2
 same-length-2 c = search needs
@@ -36,23 +50,22 @@ same-length-4 c = search needs
 
 returns-2 : tie.Need-returns-2
 returns-2 c =
-    let j = c .before .before .before .before .before .before in
-    let i = j .before .before .before .before in
-    let f = i .before .before .before .before in
-    let s = f .before .before .before .before .before in
-    done-turns (s .args .numbers .now) (s .args .sizes .now) (s .args .bits .now) (s .pre) (f .fill-range .last .0) (f .fill-range .ensures) (s .args .threshold)
-    (ap (λ z. lt z (s .args .threshold)) (sym zero-double) ∙ i .if2 .taken)
-    (i .before .if1 .left)
-    (j .join-all .last .0) (j .join-all .last .1 .0) (j .join-all .last .1 .1 .0) (j .join-all .kept .0) (j .join-all .ensures)
+    let j = c .before .before .before .before .before .before .before .join-all in
+    let f = c .before .before .before .before .before .before .before .before .before .before .before .before .before .before .before .before .fill-range in
+    let s = c .before .before .before .before .before .before .before .before .before .before .before .before .before .before .before .before .before .before .before .before .before in
+    done-turns (s .args .numbers .now) (s .args .sizes .now) (s .args .bits .now) (s .pre) (f .last .0) (f .ensures) (s .args .threshold)
+    (ap (λ z. lt z (s .args .threshold)) (sym zero-double) ∙ c .before .before .before .before .before .before .before .before .before .before .before .before .if2 .taken)
+    (c .before .before .before .before .before .before .before .before .before .before .before .before .before .if1 .left)
+    (j .last .0) (j .last .1 .0) (j .last .1 .1 .0) (j .kept .0) (j .ensures)
 
 same-length-5 : tie.Need-same-length-5
 same-length-5 c = search needs
 
 returns-3 : tie.Need-returns-3
 returns-3 c =
-    let f = c .before .before .before .before in
-    let s = f .before .before .before .before .before in
-    done-no-threshold (s .args .numbers .now) (s .args .sizes .now) (s .args .bits .now) (s .pre) (f .fill-range .last .0) (f .fill-range .ensures) (s .args .threshold)
+    let f = c .before .before .before .before .fill-range in
+    let s = c .before .before .before .before .before .before .before .before .before in
+    done-no-threshold (s .args .numbers .now) (s .args .sizes .now) (s .args .bits .now) (s .pre) (f .last .0) (f .ensures) (s .args .threshold)
     (ap (λ z. lt z (s .args .threshold)) (sym zero-double) ∙ c .if2 .left)
 
 pub merge-in-place-spec : {M : Type 1} → statement M
@@ -62,6 +75,8 @@ merge-in-place-spec =
     fill-range-requires
     same-length
     returns
+    array-borrow-prefix-there
+    slice-aggregate-join-all
     join-all-requires
     same-length-2
     same-length-3

@@ -1,49 +1,48 @@
--- The invariant: the best so far is the first of those still there among the first i numbers. The measure is the numbers left.
+-- The invariant: the best so far is the first seeker of the first i numbers of the list. The measure is the numbers left.
 use Prim.Native.Nat.{_-_, _≤_}
-use mathlib.Core.Logic.{⊎-elim}
+use mathlib.Core.List.{map}
 use mathlib.Core.Path.{_≡_, ap, _∙_}
 use native.Mathlib.Omega.{arith}
-use borrow.Author.Tests.{eq-eqb, ne-eqb}
-use lib.ListN.{length, getD}
+use lib.Ieee.{Float}
+use lib.ListN.{length, getD, take}
+use lib.Seq.{take-all}
 use Rattle.lists.specs.Keep.{keep}
 use Rattle.lists.specs.Least.{least}
-use Rattle.merge.specs.Subgroup.{seeks, smaller}
-use Rattle.merge.specs.Tables.{subgroupAt}
-use Rattle.merge.specs.Search.{held, foundOf}
-use Rattle.merge.specs.Engine.{isThere, thereIn}
-use Rattle.merge.proofs.There.{firstThere, search-none, search-more, search-same, in-row, small-size}
+use Rattle.merge.specs.Search.{seeking, comesFirst, seekerAt, foundOf, looked}
+use Rattle.merge.specs.declared.candidate.Candidate.{Candidate}
+use Rattle.merge.proofs.There.{search-kept-none, search-kept-more}
 use Rattle.merge.proofs.search.find_seeker.Statement.{statement}
 use Rattle.merge.proofs.search.find_seeker.Tie as tie
 
 abbrev Inv-loop : tie.InvT-loop
-Inv-loop numbers sizes bits threshold best₀ i₀ best i =
-    (i ≤ length numbers) × (foundOf best ≡ least smaller (keep (seeks threshold) (firstThere (subgroupAt sizes bits) (isThere numbers) i)))
+Inv-loop there sizes threshold best₀ i₀ best i =
+    (i ≤ length there) × (foundOf best ≡ least comesFirst (keep (seeking threshold) (map (seekerAt sizes) (take i there))))
 
 abbrev μ-loop : tie.MeasureT-loop
-μ-loop numbers sizes bits threshold best₀ i₀ best i = length numbers - i
+μ-loop there sizes threshold best₀ i₀ best i = length there - i
 
 nothing-requires : tie.Need-nothing-requires Inv-loop μ-loop
 nothing-requires c κs = tt
 
 loop-holds : tie.Need-loop-holds Inv-loop μ-loop
 loop-holds c =
-    let a = c .before .before .before .before .args in
-    (omega arith, c .nothing .ensures ∙ search-none (subgroupAt (a .sizes .now) (a .bits .now)) (isThere (a .numbers .now)) smaller (seeks (a .threshold)))
+    let a = c .before .before .before .args in
+    (omega arith, c .nothing .ensures ∙ search-kept-none (seekerAt (a .sizes .now)) comesFirst (a .there .now) (seeking (a .threshold)))
 
-mul-if1 : tie.Need-mul-if1 Inv-loop μ-loop
-mul-if1 c = omega arith
+mul-m : tie.Need-mul-m Inv-loop μ-loop
+mul-m c = omega arith
 
-shared-slice-read-if1 : tie.Need-shared-slice-read-if1 Inv-loop μ-loop
-shared-slice-read-if1 c = omega arith
+shared-slice-read-m : tie.Need-shared-slice-read-m Inv-loop μ-loop
+shared-slice-read-m c = omega arith
 
-cast-if1 : tie.Need-cast-if1 Inv-loop μ-loop
-cast-if1 c = omega (arith, c .shared-slice-known4 .given (c .before .before .loop .i))
+cast-m : tie.Need-cast-m Inv-loop μ-loop
+cast-m c = omega (arith, c .shared-slice-known3 .given (c .before .before .loop .i))
 
-subgroup-at-requires : tie.Need-subgroup-at-requires Inv-loop μ-loop
-subgroup-at-requires c κs =
-    let s = c .before .before .before .before .before .before .before .before in
-    let i = c .before .before .before .loop .i in
-    (in-row (s .pre) i (omega arith), small-size (s .pre) i (omega arith))
+size-at-requires : tie.Need-size-at-requires Inv-loop μ-loop
+size-at-requires c κs =
+    let s = c .before .before .before .before .before .before in
+    let h = s .pre .inside (c .before .before .loop .i) (omega arith) in
+    (h, s .pre .exact (getD (s .args .there .now) (c .before .before .loop .i) 0) h)
 
 or-seeker-requires : tie.Need-or-seeker-requires Inv-loop μ-loop
 or-seeker-requires c κs = tt
@@ -55,24 +54,22 @@ loop-less : tie.Need-loop-less Inv-loop μ-loop
 loop-less c = omega arith
 
 loop-again : tie.Need-loop-again Inv-loop μ-loop
+unfolding seekerAt
 loop-again c =
+    let l = c .before .before .before .before .loop in
     let a = c .before .before .before .before .before .before .before .before .args in
-    let l = c .before .before .before .loop in
-    let n = a .numbers .now in
-    let f = subgroupAt (a .sizes .now) (a .bits .now) in (
+    let m = getD (a .there .now) (l .i) 0 in
+    let is = ap {B = Candidate} (λ (z : Float). record { number = m; size = z; distance = 0 }) (c .before .size-at .ensures) in (
       omega arith,
-      ⊎-elim
-          (λ w. search-more f (isThere n) smaller (seeks (a .threshold)) (l .i) (foundOf (l .best)) (foundOf (c .if1 .best)) (held (w .1 .result)) (eq-eqb (getD n (l .i) 0) (l .i) (w .0 .taken)) (w .1 .ensures) (l .inv .1) (ap foundOf (w .3) ∙ w .2 .ensures))
-          (λ w. ap foundOf (w .1) ∙ search-same f (isThere n) smaller (seeks (a .threshold)) (l .i) (foundOf (l .best)) (ne-eqb (getD n (l .i) 0) (l .i) (w .0 .left)) (l .inv .1))
-          (c .if1 .came),
+      search-kept-more (seekerAt (a .sizes .now)) comesFirst (a .there .now) (seeking (a .threshold)) (l .i) (omega arith) (foundOf (l .best)) (foundOf (c .or-seeker .result)) (l .inv .1)
+          (c .or-seeker .ensures ∙ ap (λ (x : Candidate). looked comesFirst (seeking (a .threshold) x) (foundOf (l .best)) x) is),
     )
 
 returns : tie.Need-returns Inv-loop μ-loop
-unfolding thereIn
 returns c =
-    let a = c .before .before .before .before .before .before .args in
-    let all : c .before .loop .i ≡ length (a .numbers .now) = omega arith in
-    rw all at (c .before .loop .inv .1)
+    let a = c .before .before .before .before .before .args in
+    let l = c .before .loop in
+    l .inv .1 ∙ ap (λ t. least comesFirst (keep (seeking (a .threshold)) (map (seekerAt (a .sizes .now)) t))) (take-all (l .i) (a .there .now) (omega arith))
 
 pub find-seeker-spec : {M : Type 1} → statement M
 find-seeker-spec =
@@ -82,10 +79,10 @@ find-seeker-spec =
     μ-loop
     nothing-requires
     loop-holds
-    mul-if1
-    shared-slice-read-if1
-    cast-if1
-    subgroup-at-requires
+    mul-m
+    shared-slice-read-m
+    cast-m
+    size-at-requires
     or-seeker-requires
     add-i
     loop-less

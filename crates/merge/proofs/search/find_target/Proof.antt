@@ -1,27 +1,22 @@
--- The invariant: the best so far is the first of those still there among the first i numbers. The measure is the numbers left.
+-- The invariant: the best so far is the nearest of the first i numbers of the list. The measure is the numbers left.
 use Prim.Native.Nat.{_-_, _≤_}
-use mathlib.Core.Logic.{⊎-elim}
+use mathlib.Core.List.{map}
 use mathlib.Core.Path.{_≡_, ap, _∙_}
 use native.Mathlib.Omega.{arith}
-use borrow.Author.Tests.{eq-eqb, ne-eqb}
-use lib.ListN.{length, getD}
-use Rattle.lists.specs.Keep.{keep}
+use lib.ListN.{length, getD, take}
+use lib.Seq.{take-all}
 use Rattle.lists.specs.Least.{least}
-use Rattle.merge.specs.Subgroup.{nearer}
-use Rattle.merge.specs.Merge.{others}
-use Rattle.merge.specs.Tables.{subgroupAt}
-use Rattle.merge.specs.Search.{held, foundOf}
-use Rattle.merge.specs.Engine.{isThere, thereIn}
-use Rattle.merge.proofs.There.{firstThere, search-none, search-more, search-same, other, in-row, small-size}
+use Rattle.merge.specs.Search.{comesFirst, targetAt, foundOf}
+use Rattle.merge.proofs.There.{search-none, search-more}
 use Rattle.merge.proofs.search.find_target.Statement.{statement}
 use Rattle.merge.proofs.search.find_target.Tie as tie
 
 abbrev Inv-loop : tie.InvT-loop
-Inv-loop numbers sizes bits seeker best₀ i₀ best i =
-    (i ≤ length numbers) × (foundOf best ≡ least (nearer (held seeker)) (keep (other (held seeker)) (firstThere (subgroupAt sizes bits) (isThere numbers) i)))
+Inv-loop there sizes bits wanted best₀ i₀ best i =
+    (i ≤ length there) × (foundOf best ≡ least comesFirst (map (targetAt sizes bits wanted) (take i there)))
 
 abbrev μ-loop : tie.MeasureT-loop
-μ-loop numbers sizes bits seeker best₀ i₀ best i = length numbers - i
+μ-loop there sizes bits wanted best₀ i₀ best i = length there - i
 
 nothing-requires : tie.Need-nothing-requires Inv-loop μ-loop
 nothing-requires c κs = tt
@@ -29,25 +24,22 @@ nothing-requires c κs = tt
 loop-holds : tie.Need-loop-holds Inv-loop μ-loop
 loop-holds c =
     let a = c .before .before .before .before .args in
-    (omega arith, c .nothing .ensures ∙ search-none (subgroupAt (a .sizes .now) (a .bits .now)) (isThere (a .numbers .now)) (nearer (held (a .seeker))) (other (held (a .seeker))))
+    (omega arith, c .nothing .ensures ∙ search-none (targetAt (a .sizes .now) (a .bits .now) (a .wanted)) comesFirst (a .there .now))
 
-mul-if1 : tie.Need-mul-if1 Inv-loop μ-loop
-mul-if1 c = omega arith
+mul-or-target : tie.Need-mul-or-target Inv-loop μ-loop
+mul-or-target c = omega arith
 
-shared-slice-read-if1 : tie.Need-shared-slice-read-if1 Inv-loop μ-loop
-shared-slice-read-if1 c = omega arith
+shared-slice-read-or-target : tie.Need-shared-slice-read-or-target Inv-loop μ-loop
+shared-slice-read-or-target c = omega arith
 
-cast-if1 : tie.Need-cast-if1 Inv-loop μ-loop
-cast-if1 c = omega (arith, c .shared-slice-known4 .given (c .before .before .loop .i))
-
-subgroup-at-requires : tie.Need-subgroup-at-requires Inv-loop μ-loop
-subgroup-at-requires c κs =
-    let s = c .before .before .before .before .before .before .before .before in
-    let i = c .before .before .before .loop .i in
-    (in-row (s .pre) i (omega arith), small-size (s .pre) i (omega arith))
+cast-or-target : tie.Need-cast-or-target Inv-loop μ-loop
+cast-or-target c = omega (arith, c .shared-slice-known4 .given (c .before .before .loop .i))
 
 or-target-requires : tie.Need-or-target-requires Inv-loop μ-loop
-or-target-requires c κs = tt
+or-target-requires c κs =
+    let s = c .before .before .before .before .before .before .before in
+    let h = s .pre .0 .inside (c .before .before .loop .i) (omega arith) in
+    record { has-size = h; has-bits = omega (arith, s .pre .1); exact = s .pre .0 .exact (getD (s .args .there .now) (c .before .before .loop .i) 0) h }
 
 add-i : tie.Need-add-i Inv-loop μ-loop
 add-i c = omega arith
@@ -57,23 +49,17 @@ loop-less c = omega arith
 
 loop-again : tie.Need-loop-again Inv-loop μ-loop
 loop-again c =
-    let a = c .before .before .before .before .before .before .before .before .args in
     let l = c .before .before .before .loop in
-    let n = a .numbers .now in
-    let f = subgroupAt (a .sizes .now) (a .bits .now) in (
+    let a = c .before .before .before .before .before .before .before .before .args in (
       omega arith,
-      ⊎-elim
-          (λ w. search-more f (isThere n) (nearer (held (a .seeker))) (other (held (a .seeker))) (l .i) (foundOf (l .best)) (foundOf (c .if1 .best)) (held (w .1 .result)) (eq-eqb (getD n (l .i) 0) (l .i) (w .0 .taken)) (w .1 .ensures) (l .inv .1) (ap foundOf (w .3) ∙ w .2 .ensures))
-          (λ w. ap foundOf (w .1) ∙ search-same f (isThere n) (nearer (held (a .seeker))) (other (held (a .seeker))) (l .i) (foundOf (l .best)) (ne-eqb (getD n (l .i) 0) (l .i) (w .0 .left)) (l .inv .1))
-          (c .if1 .came),
+      search-more (targetAt (a .sizes .now) (a .bits .now) (a .wanted)) comesFirst (a .there .now) (l .i) (omega arith) (foundOf (l .best)) (foundOf (c .or-target .result)) (l .inv .1) (c .or-target .ensures),
     )
 
 returns : tie.Need-returns Inv-loop μ-loop
-unfolding thereIn others
 returns c =
     let a = c .before .before .before .before .before .before .args in
-    let all : c .before .loop .i ≡ length (a .numbers .now) = omega arith in
-    rw all at (c .before .loop .inv .1)
+    let l = c .before .loop in
+    l .inv .1 ∙ ap (λ t. least comesFirst (map (targetAt (a .sizes .now) (a .bits .now) (a .wanted)) t)) (take-all (l .i) (a .there .now) (omega arith))
 
 pub find-target-spec : {M : Type 1} → statement M
 find-target-spec =
@@ -83,10 +69,9 @@ find-target-spec =
     μ-loop
     nothing-requires
     loop-holds
-    mul-if1
-    shared-slice-read-if1
-    cast-if1
-    subgroup-at-requires
+    mul-or-target
+    shared-slice-read-or-target
+    cast-or-target
     or-target-requires
     add-i
     loop-less

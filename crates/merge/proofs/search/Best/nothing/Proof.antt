@@ -1,16 +1,12 @@
 -- Nothing is found at the start.
-use borrow.Author.Needs.{needs}
 use mathlib.Core.Path.{refl}
 use Rattle.merge.specs.Search.{foundOf}
 use Rattle.merge.proofs.search.Best.nothing.Statement.{statement}
 use Rattle.merge.proofs.search.Best.nothing.Tie as tie
-
-new-requires : tie.Need-new-requires
-new-requires c κs = search needs
 
 returns : tie.Need-returns
 unfolding foundOf
 returns c = refl
 
 pub nothing-spec : {M : Type 1} → statement M
-nothing-spec = tie.close (tie.spec new-requires returns)
+nothing-spec = tie.close (tie.spec returns)

@@ -1,42 +1,75 @@
--- Each way out is one case of the best so far.
-use mathlib.Core.Bool.{not}
-use mathlib.Core.Path.{sym, ap, _∙_}
+-- One that its first words alone tell apart by more entries does not take the place of the best; any other is compared with it.
+use Prim.Native.Nat.{ℕ, _≤_}
+use mathlib.Core.Bool.{true}
+use mathlib.Core.Path.{_≡_, refl, sym, ap, ap₂, _∙_, subst}
+use borrow.Author.Tests.{not-true, not-false}
+use lib.Ieee.{Float}
+use Rattle.bitset.specs.Entries.{differing}
+use Rattle.bitset.proofs.Words.{held}
+use Rattle.merge.specs.Search.{comesFirst, firstOnes, targetAt, foundOf, looked}
+use Rattle.merge.specs.declared.candidate.Candidate.{Candidate}
+use Rattle.merge.proofs.Looking.{stays, takes-over, far-away, first-at-most}
 use borrow.Author.Needs.{needs}
-use borrow.Author.Tests.{not-true, not-false, eq-eqb, ne-eqb}
-use Rattle.merge.specs.Subgroup.{nearer}
-use Rattle.merge.specs.Search.{held}
-use Rattle.merge.proofs.Looking.{passed-over, first, comes-before, stays}
 use Rattle.merge.proofs.search.Best.or_target.Statement.{statement}
 use Rattle.merge.proofs.search.Best.or_target.Tie as tie
 
-returns : tie.Need-returns
-returns c =
-    let a = c .before .before .before .args in
-    passed-over (nearer (held (a .seeker))) (a .self) (a .s) _ (ap not (eq-eqb (a .s .number) (a .seeker .number) (c .if1 .taken)))
-
-returns-2 : tie.Need-returns-2
-returns-2 c =
-    let a = c .before .before .before .before .before .args in
-    let other = ap not (ne-eqb (a .s .number) (a .seeker .number) (c .before .before .if1 .left)) in
-    first (nearer (held (a .seeker))) (a .self) (a .s) _ other (not-true _ (c .if2 .taken))
+row-requires : tie.Need-row-requires
+row-requires c κs = search needs
 
 is-nearer-requires : tie.Need-is-nearer-requires
 is-nearer-requires c κs = search needs
 
-returns-3 : tie.Need-returns-3
-returns-3 c =
-    let b = c .before .before .before .before in
-    let a = b .before .before .before .args in
-    let other = ap not (ne-eqb (a .s .number) (a .seeker .number) (b .if1 .left)) in
-    comes-before (nearer (held (a .seeker))) (a .self) (a .s) _ other (not-false _ (c .before .before .if2 .left)) (sym (c .before .is-nearer .ensures) ∙ c .if3 .taken)
+returns : tie.Need-returns
+unfolding targetAt
+returns c =
+    let a = c .before .before .before .before .before .args in
+    let r = c .before .before .row in
+    let few : firstOnes (a .wanted) (r .result) ≤ differing (a .wanted) (r .result) = first-at-most {a = a .wanted} {b = r .result} (search held) (search held) in
+    stays (a .self) (targetAt (a .sizes .now) (a .bits .now) (a .wanted) (a .i))
+    (far-away (a .self) (targetAt (a .sizes .now) (a .bits .now) (a .wanted) (a .i)) (firstOnes (a .wanted) (r .result))
+    (subst (λ w. firstOnes (a .wanted) (r .result) ≤ differing (a .wanted) w) (r .ensures) few)
+    (sym (c .before .is-nearer .ensures) ∙ c .if1 .taken)) true
 
-returns-4 : tie.Need-returns-4
-returns-4 c =
-    let b = c .before .before .before .before in
-    let a = b .before .before .before .args in
-    let other = ap not (ne-eqb (a .s .number) (a .seeker .number) (b .if1 .left)) in
-    stays (nearer (held (a .seeker))) (a .self) (a .s) _ other (not-false _ (c .before .before .if2 .left)) (sym (c .before .is-nearer .ensures) ∙ c .if3 .left)
+size-at-requires : tie.Need-size-at-requires
+size-at-requires c κs = search needs
+
+symmetric-difference-count-requires : tie.Need-symmetric-difference-count-requires
+symmetric-difference-count-requires c κs = search needs
+
+gives-way-requires : tie.Need-gives-way-requires
+gives-way-requires c κs = search needs
+
+returns-2 : tie.Need-returns-2
+unfolding targetAt
+returns-2 c =
+    let a = c .before .before .before .before .before .before .before .before .before .args in
+    let r = c .before .before .before .before .before .before .row in
+    let d = c .before .before .symmetric-difference-count in
+    let x : Candidate = record { number = a .i; size = c .before .before .before .size-at .result; distance = d .result } in
+    let is : x ≡ targetAt (a .sizes .now) (a .bits .now) (a .wanted) (a .i) =
+    ap₂ {C = Candidate} (λ (z : Float) (n : ℕ). record { number = a .i; size = z; distance = n }) (c .before .before .before .size-at .ensures) (d .ensures ∙ ap (differing (a .wanted)) (r .ensures)) in
+    stays (a .self) x (sym (c .before .gives-way .ensures) ∙ not-true _ (c .if2 .taken)) true ∙ ap (looked comesFirst true (foundOf (a .self))) is
+
+returns-3 : tie.Need-returns-3
+unfolding targetAt
+returns-3 c =
+    let a = c .before .before .before .before .before .before .before .before .before .args in
+    let r = c .before .before .before .before .before .before .row in
+    let d = c .before .before .symmetric-difference-count in
+    let x : Candidate = record { number = a .i; size = c .before .before .before .size-at .result; distance = d .result } in
+    let is : x ≡ targetAt (a .sizes .now) (a .bits .now) (a .wanted) (a .i) =
+    ap₂ {C = Candidate} (λ (z : Float) (n : ℕ). record { number = a .i; size = z; distance = n }) (c .before .before .before .size-at .ensures) (d .ensures ∙ ap (differing (a .wanted)) (r .ensures)) in
+    takes-over (a .self) x (sym (c .before .gives-way .ensures) ∙ not-false _ (c .if2 .left)) true refl ∙ ap (looked comesFirst true (foundOf (a .self))) is
 
 pub or-target-spec : {M : Type 1} → statement M
 or-target-spec =
-    tie.close (tie.spec returns returns-2 is-nearer-requires returns-3 returns-4)
+    tie.close
+    (tie.spec
+    row-requires
+    is-nearer-requires
+    returns
+    size-at-requires
+    symmetric-difference-count-requires
+    gives-way-requires
+    returns-2
+    returns-3)

@@ -2,19 +2,19 @@
 use mathlib.Core.Bool.{_&&_}
 use mathlib.Core.Path.{sym, ap, _∙_}
 use lib.Ieee.{lt}
-use Rattle.merge.specs.Subgroup.{seeks}
+use Rattle.merge.specs.Search.{seeking}
 use Rattle.merge.proofs.Doubles.{zero-double}
-use Rattle.merge.proofs.subgroup.Subgroup.seeks.Statement.{statement}
-use Rattle.merge.proofs.subgroup.Subgroup.seeks.Tie as tie
+use Rattle.merge.proofs.candidate.Candidate.seeks.Statement.{statement}
+use Rattle.merge.proofs.candidate.Candidate.seeks.Tie as tie
 
 returns : tie.Need-returns
-unfolding seeks
+unfolding seeking
 returns c =
     let a = c .before .before .before .args in
     sym (ap (λ t. t && lt (a .self .size) (a .threshold)) (ap (λ z. lt z (a .self .size)) (sym zero-double) ∙ c .before .if1 .taken))
 
 returns-2 : tie.Need-returns-2
-unfolding seeks
+unfolding seeking
 returns-2 c =
     let a = c .before .before .args in
     sym (ap (λ t. t && lt (a .self .size) (a .threshold)) (ap (λ z. lt z (a .self .size)) (sym zero-double) ∙ c .if1 .left))

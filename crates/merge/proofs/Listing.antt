@@ -1,0 +1,72 @@
+-- The list of the numbers that are still there: what stands in it, and the list after a join.
+use Prim.Native.Nat.{ℕ, suc, _+_, _*_, _-_, _^_, _≤_, _<_}
+use mathlib.Core.Bool.{Bool, true, not, _&&_}
+use mathlib.Core.List.{List, map, List·Memᴰ}
+use mathlib.Core.Path.{_≡_, refl, sym, ap, _∙_, subst}
+use native.Mathlib.Nat.{zero-add}
+use native.Mathlib.Omega.{arith}
+use borrow.Author.Tests.{eq-eqb}
+use lib.Dec.{eqb}
+use lib.ListN.{length, getD}
+use Rattle.lists.specs.Keep.{keep}
+use Rattle.lists.specs.Range.{range}
+use Rattle.lists.proofs.Distinct.{Distinct}
+use Rattle.lists.proofs.KeepLength.{keep-le}
+use Rattle.lists.proofs.KeepTests.{keep-same}
+use Rattle.lists.proofs.Members.{range-mem, mem-range, keep-mem, mem-keep}
+use Rattle.lists.proofs.Position.{getD-mem}
+use Rattle.lists.proofs.Range.{length-range, getD-range}
+use Rattle.lists.proofs.Sort.{pairs-kept}
+use Rattle.merge.specs.Subgroup.{Subgroup}
+use Rattle.merge.specs.Tables.{Mergeable}
+use Rattle.merge.specs.Search.{Readable}
+use Rattle.merge.specs.Engine.{isThere, listed, Joinable, JoinedTables}
+use Rattle.merge.proofs.Kept.{keep-keep, all-kept}
+use Rattle.merge.proofs.There.{small-size}
+use Rattle.merge.proofs.Joining.{there-now, joined-count}
+use Rattle.merge.proofs.Removing.{butOne}
+
+module _ (numbers : List ℕ) where
+  pub listed-distinct : Distinct (listed numbers)
+  unfolding listed
+  listed-distinct = pairs-kept (λ x y. x ≡ y → ⊥) (isThere numbers) 0 (length numbers) (λ l m h u p q e. omega arith)
+
+  pub listed-in : (i : ℕ) → i < length numbers → isThere numbers i ≡ true → List·Memᴰ i (listed numbers)
+  unfolding listed
+  listed-in i h e = mem-keep (isThere numbers) i (mem-range 0 (length numbers) i (omega arith) (omega arith)) e
+
+  pub in-listed : (i : ℕ) → List·Memᴰ i (listed numbers) → i < length numbers
+  unfolding listed
+  in-listed i m =
+      let r = range-mem 0 (length numbers) i (keep-mem (isThere numbers) (range 0 (length numbers)) i m .0) in
+      omega arith
+
+  pub listed-few : length (listed numbers) ≤ length numbers
+  unfolding listed
+  listed-few = omega (arith, keep-le (isThere numbers) (range 0 (length numbers)), length-range 0 (length numbers))
+
+-- where each has its own number, all are listed
+pub listed-all : (n : List ℕ) (k : ℕ) → n ≡ range 0 k → listed n ≡ n
+unfolding listed
+listed-all n k e =
+    ap (λ m. keep (isThere n) (range 0 m)) (ap length e ∙ length-range 0 k)
+    ∙ all-kept (isThere n) 0 k (λ i l u. eq-eqb (getD n i 0) i (ap (λ l. getD l i 0) e ∙ getD-range 0 k i 0 (omega arith) ∙ zero-add i))
+    ∙ sym e
+
+-- a search reads a list of some of them
+module _ {numbers sizes bits : List ℕ} (tables : Mergeable numbers sizes bits) (l : List ℕ) where
+  pub readable : ((i : ℕ) → List·Memᴰ i l → List·Memᴰ i (listed numbers)) → Readable l sizes
+  readable some = record {
+    inside = λ i h. omega (arith, in-listed numbers (getD l i 0) (some (getD l i 0) (getD-mem l i 0 h)), tables .sizes-fit);
+    exact = λ i h. small-size tables i (omega (arith, tables .sizes-fit));
+  }
+
+-- the list after s has joined t
+pub listed-joined : (s t : Subgroup) (numbers sizes bits : List ℕ) → Joinable s t numbers sizes bits → (n z b : List ℕ) → JoinedTables s t numbers sizes bits n z b
+    → listed n ≡ butOne (s .number) (listed numbers)
+unfolding listed
+listed-joined s t numbers sizes bits g n z b after =
+    ap (λ k. keep (isThere n) (range 0 k)) (joined-count s t numbers sizes bits g n z b after)
+    ∙ keep-same (isThere n) (λ i. isThere numbers i && not (eqb i (s .number))) (range 0 (length numbers))
+    (λ i m. let r = range-mem 0 (length numbers) i m in there-now s t numbers sizes bits g n z b after i (omega arith))
+    ∙ sym (keep-keep (isThere numbers) (λ i. not (eqb i (s .number))) (range 0 (length numbers)))
