@@ -5,7 +5,7 @@ use std::{future::ready, sync::Arc};
 use rolldown_common::{MatchGroup, MatchGroupName, MatchGroupTest, TestRegex, tag_name};
 use text::{Build, Group};
 
-use crate::Callbacks;
+use crate::{Callbacks, probe::callback};
 
 /// How wide the name of a group is in bytes.
 pub const NAME_WIDTH: usize = 6;
@@ -76,7 +76,7 @@ fn test_of(asked: &[u32], answers: &Arc<[u32]>, callbacks: Callbacks) -> Option<
         Callbacks::Plainest => Some(MatchGroupTest::Regex(TestRegex(Box::new(matches)))),
         Callbacks::Functions => {
             Some(MatchGroupTest::Function(Arc::new(move |ids: Vec<String>| {
-                ready(Ok(ids.iter().map(|id| matches(id)).collect()))
+                callback(|| ready(Ok(ids.iter().map(|id| matches(id)).collect())))
             })))
         }
     }
@@ -94,7 +94,7 @@ fn name_of(asked: &[u32], answers: &Arc<[u32]>, callbacks: Callbacks) -> MatchGr
     let answers = Arc::clone(answers);
     MatchGroupName::Dynamic(Arc::new(move |ids: Vec<String>| {
         let name = |id: &String| answers[module_number(id)].checked_sub(2).map(name_text);
-        ready(Ok(ids.iter().map(name).collect()))
+        callback(|| ready(Ok(ids.iter().map(name).collect())))
     }))
 }
 

@@ -1,9 +1,9 @@
 //! Asks one copy of the crate's text.
 
-use std::{fmt, time::Duration};
+use std::fmt;
 
 use rustc_hash::order::{Order, Orders};
-use text::{Answer, Build, Question, tables::effective};
+use text::{Answer, Question, tables::effective};
 
 use crate::{CrateText, copies, leaves, whole};
 
@@ -111,10 +111,5 @@ impl Judge {
             Question::Merge(merge) => leaves::merge(self, merge).map(Answer::Merge),
             Question::Chunks(chunks) => whole::chunks(self, &chunks.build).map(Answer::Chunks),
         }
-    }
-
-    /// How long the text takes for a whole build, from the callbacks to the sorted modules.
-    pub fn timed(&self, build: &Build) -> Result<Duration, Outside> {
-        whole::timed(self, build)
     }
 }

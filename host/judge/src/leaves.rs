@@ -1,14 +1,15 @@
 //! Leaf calls, put to one copy of the crate's text.
 
 use oxc_index::Idx;
-use rolldown_common::ModuleIdx;
+use rolldown_common::{ModuleIdx, ModuleTable};
+use rolldown_utils::BitSet;
 use rustc_hash::order::under;
 use text::{
     Build, Capture, Cut, CutAnswer, Filter, Group, Merge, MergedSubgroup, Module, Options, Sim,
 };
 
 use crate::{
-    Callbacks, CrateText, Judge, Outside, World,
+    Callbacks, CrateText, Judge, Outside, RemainingSubgroup, World,
     bits::{bit_set, words},
     groups::with_options,
     world::module_table,
@@ -30,6 +31,17 @@ pub fn cut(text: &CrateText, cut: &Cut) -> Result<Option<CutAnswer>, Outside> {
 
 /// A capture from a start module.
 pub fn capture(text: &CrateText, capture: &Capture) -> Result<Vec<u8>, Outside> {
+    let world = capture_world(capture)?;
+    let start = ModuleIdx::from_usize(capture.start as usize);
+    let mut marks = vec![0; capture.flags.len()];
+    for module in (text.capture)(&world, start, capture.recursive) {
+        marks[module.index()] = 1;
+    }
+    Ok(marks)
+}
+
+/// The world of a capture: modules with flags and dependencies alone.
+pub fn capture_world(capture: &Capture) -> Result<World, Outside> {
     let flags = capture.flags.iter().zip(&capture.first);
     let module = |(flags, first): (&u8, &u32)| Module {
         flags: *flags,
@@ -41,13 +53,7 @@ pub fn capture(text: &CrateText, capture: &Capture) -> Result<Vec<u8>, Outside> 
         records: capture.records.clone(),
         ..Build::default()
     };
-    let world = World::new(&build, Vec::new())?;
-    let start = ModuleIdx::from_usize(capture.start as usize);
-    let mut marks = vec![0; capture.flags.len()];
-    for module in (text.capture)(&world, start, capture.recursive) {
-        marks[module.index()] = 1;
-    }
-    Ok(marks)
+    World::new(&build, Vec::new())
 }
 
 /// The filter on one module. The limits are given to the group, or else to the build as a whole.
@@ -75,17 +81,26 @@ pub fn filter(judge: &Judge, filter: &Filter) -> Result<bool, Outside> {
 
 /// A merge of subgroups, each with one module of its size.
 pub fn merge(judge: &Judge, merge: &Merge) -> Result<Vec<MergedSubgroup>, Outside> {
-    let module = |size| Module { flags: 3, size, ..Module::default() };
-    let modules: Vec<_> = merge.subgroups.iter().map(|subgroup| module(subgroup.size)).collect();
-    let bits: Vec<_> =
-        merge.subgroups.iter().map(|subgroup| bit_set(merge.entries, subgroup.bits)).collect();
-    let vanished = MergedSubgroup { number: u32::MAX, size: 0, bits: [0; 4] };
-    let mut merged = vec![vanished; modules.len()];
+    let (module_table, bits) = merge_tables(merge)?;
     let threshold = merge.threshold.unwrap_or(0.0);
-    let module_table = module_table(&modules)?;
-    let numbers: Vec<u32> = (0..).take(modules.len()).collect();
+    let numbers: Vec<u32> = (0..).take(bits.len()).collect();
     let left =
         under(judge.walk.orders(&numbers), || (judge.text.merge)(&module_table, &bits, threshold));
+    merged(bits.len(), left)
+}
+
+/// The modules and the entry bits of a merge, one of each for a subgroup.
+pub fn merge_tables(merge: &Merge) -> Result<(ModuleTable, Vec<BitSet>), Outside> {
+    let module = |size| Module { flags: 3, size, ..Module::default() };
+    let modules: Vec<_> = merge.subgroups.iter().map(|subgroup| module(subgroup.size)).collect();
+    let bits = merge.subgroups.iter().map(|subgroup| bit_set(merge.entries, subgroup.bits));
+    Ok((module_table(&modules)?, bits.collect()))
+}
+
+/// What came of each of so many subgroups.
+pub fn merged(count: usize, left: Vec<RemainingSubgroup>) -> Result<Vec<MergedSubgroup>, Outside> {
+    let vanished = MergedSubgroup { number: u32::MAX, size: 0, bits: [0; 4] };
+    let mut merged = vec![vanished; count];
     for remaining in left {
         for module in remaining.modules {
             merged[module.index()].number = remaining.key;
@@ -97,7 +112,7 @@ pub fn merge(judge: &Judge, merge: &Merge) -> Result<Vec<MergedSubgroup>, Outsid
 }
 
 /// The crate's ids are texts.
-fn id_text(id: &[u8]) -> Result<&str, Outside> {
+pub fn id_text(id: &[u8]) -> Result<&str, Outside> {
     std::str::from_utf8(id).map_err(|_| Outside::IdIsNoText)
 }
 

@@ -15,6 +15,7 @@ mod judge;
 mod leaves;
 pub mod probe;
 pub mod stages;
+pub mod timed;
 pub mod types;
 pub mod utils;
 mod whole;

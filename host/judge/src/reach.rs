@@ -3,7 +3,7 @@
 use oxc_index::Idx;
 
 use super::*;
-use crate::{CrateText, RemainingSubgroup, World, block_on::block_on};
+use crate::{CrateText, RemainingSubgroup, World, block_on::block_on, probe::clock};
 
 /// The functions of this copy.
 pub static TEXT: CrateText = CrateText {
@@ -24,15 +24,17 @@ fn capture(world: &World, start: ModuleIdx, recursively: bool) -> Vec<ModuleIdx>
         sizes: 0.0,
         entries_aware_bits: None,
     };
-    add_module_and_dependencies_to_group_recursively(
-        &mut group,
-        start,
-        &world.link_output.metas,
-        &world.link_output.module_table,
-        &world.module_to_assigned,
-        &mut FxHashSet::default(),
-        recursively,
-    );
+    clock(|| {
+        add_module_and_dependencies_to_group_recursively(
+            &mut group,
+            start,
+            &world.link_output.metas,
+            &world.link_output.module_table,
+            &world.module_to_assigned,
+            &mut FxHashSet::default(),
+            recursively,
+        );
+    });
     group.modules.into_iter().collect()
 }
 
@@ -67,7 +69,7 @@ fn merge(module_table: &ModuleTable, bits: &[BitSet], threshold: f64) -> Vec<Rem
         subgroups.insert(key, EntriesAwareSubgroup { bits: bits.clone(), modules, sizes });
     }
     let keys: Vec<u32> = subgroups.keys().copied().collect();
-    merge_entries_aware_subgroups(&mut subgroups, &keys, threshold, module_table);
+    clock(|| merge_entries_aware_subgroups(&mut subgroups, &keys, threshold, module_table));
     let remaining = |(key, subgroup): (u32, EntriesAwareSubgroup)| RemainingSubgroup {
         key,
         modules: subgroup.modules.into_iter().collect(),

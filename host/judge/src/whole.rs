@@ -1,10 +1,8 @@
 //! A whole build, put to one copy of the crate's text and to its probed copy.
 
-use std::time::{Duration, Instant};
-
 use oxc_index::Idx;
 use rolldown_common::{Chunk, ChunkIdx, ChunkKind, ChunkReasonType, ModuleIdx};
-use rolldown_utils::BitSet;
+use rolldown_utils::{BitSet, IndexBitSet};
 use rustc_hash::order::under;
 use text::{Build, ChunkList};
 
@@ -13,7 +11,7 @@ use crate::{
     bits::words,
     chunk_graph::ChunkGraph,
     groups::{match_groups, name_number},
-    probe,
+    probe::{self, clock},
 };
 
 /// The chunk list of a build, in the text's own words and with the sizes that the probe reports.
@@ -44,14 +42,8 @@ fn run(
     build: &Build,
 ) -> Result<ChunkList, Outside> {
     let exec_orders: Vec<u32> = build.modules.iter().map(|module| module.order).collect();
-    let mut graph = graph_on_entry(build);
-    let mut assigned = world.module_to_assigned.clone();
-    under(judge.walk.orders(&exec_orders), || {
-        let result = (text.split)(world, &mut graph, &mut assigned);
-        graph.sort_chunk_modules(&world.link_output, &world.options);
-        result
-    })
-    .map_err(|error| Outside::Broken(error.0))?;
+    let (graph, assigned) =
+        under(judge.walk.orders(&exec_orders), || run_text(text, world, build))?;
     let list = chunk_list(&graph, build)?;
     for (number, chunk) in list.chunk_of.iter().enumerate() {
         let module = ModuleIdx::from_usize(number);
@@ -62,19 +54,21 @@ fn run(
     Ok(list)
 }
 
-/// How long the text alone takes, once everything that it is handed is there.
-pub fn timed(judge: &Judge, build: &Build) -> Result<Duration, Outside> {
-    let world = World::new(build, match_groups(build, judge.callbacks))?;
-    let exec_orders: Vec<u32> = build.modules.iter().map(|module| module.order).collect();
+/// Runs one copy by the clock: `split`, then the sort of each chunk's modules.
+pub fn run_text(
+    text: &CrateText,
+    world: &World,
+    build: &Build,
+) -> Result<(ChunkGraph, IndexBitSet<ModuleIdx>), Outside> {
     let mut graph = graph_on_entry(build);
     let mut assigned = world.module_to_assigned.clone();
-    under(judge.walk.orders(&exec_orders), || {
-        let begin = Instant::now();
-        let result = (judge.text.split)(&world, &mut graph, &mut assigned);
+    clock(|| {
+        let result = (text.split)(world, &mut graph, &mut assigned);
         graph.sort_chunk_modules(&world.link_output, &world.options);
-        result.map(|()| begin.elapsed())
+        result
     })
-    .map_err(|error| Outside::Broken(error.0))
+    .map_err(|error| Outside::Broken(error.0))?;
+    Ok((graph, assigned))
 }
 
 /// A graph that holds as many chunks as there are on entry, all of them empty.
@@ -89,7 +83,7 @@ fn graph_on_entry(build: &Build) -> ChunkGraph {
 }
 
 /// What the graph holds beyond the chunks on entry.
-fn chunk_list(graph: &ChunkGraph, build: &Build) -> Result<ChunkList, Outside> {
+pub fn chunk_list(graph: &ChunkGraph, build: &Build) -> Result<ChunkList, Outside> {
     let new = graph.chunk_table.iter_enumerated().skip(build.count_on_entry as usize);
     let chunks = new.map(|(idx, chunk)| new_chunk(idx, chunk)).collect::<Result<_, _>>()?;
     let chunk_of = graph

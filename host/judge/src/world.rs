@@ -1,6 +1,6 @@
 //! What the crate's text reads of a build, made from a case.
 
-use std::sync::Arc;
+use std::{collections::HashMap, sync::Arc};
 
 use arcstr::ArcStr;
 use oxc_index::Idx;
@@ -9,7 +9,10 @@ use rolldown_common::{
     ModuleTable, ModuleTagBitSet, ModuleTagRegistry, NormalModule, NormalizedBundlerOptions,
 };
 use rolldown_plugin::SharedPluginDriver;
-use rolldown_utils::{IndexBitSet, indexmap::FxIndexMap};
+use rolldown_utils::{
+    IndexBitSet,
+    indexmap::{FxIndexMap, FxIndexSet},
+};
 use text::{Build, Options, Record};
 
 use crate::{
@@ -43,10 +46,11 @@ impl World {
             ..LinkStageOutput::default()
         };
         let mut module_to_assigned = IndexBitSet::new(build.modules.len());
+        let mut chains = HashMap::new();
         for (number, module) in build.modules.iter().enumerate() {
             link_output.metas.push(LinkingMetadata {
                 is_included: module.flags & 2 != 0,
-                dependencies: chain(first[number], &build.records).collect(),
+                dependencies: dependencies(&mut chains, first[number], &build.records),
                 ..LinkingMetadata::default()
             });
             if module.flags & 4 != 0 {
@@ -91,6 +95,15 @@ fn crate_module(number: usize, module: &text::Module, stable_id: ArcStr) -> Modu
         import_records: Vec::new(),
         meta: Default::default(),
     }))
+}
+
+/// What a module depends on. A chain that several modules share is walked once.
+fn dependencies(
+    chains: &mut HashMap<u32, FxIndexSet<ModuleIdx>>,
+    first: u32,
+    records: &[Record],
+) -> FxIndexSet<ModuleIdx> {
+    chains.entry(first).or_insert_with(|| chain(first, records).collect()).clone()
 }
 
 /// The modules named along a chain of records, from its first record to its zero.

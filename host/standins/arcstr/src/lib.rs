@@ -11,18 +11,21 @@ pub struct ArcStr(Arc<str>);
 
 impl ArcStr {
     /// The text itself.
+    #[inline]
     pub fn as_str(&self) -> &str {
         &self.0
     }
 }
 
 impl From<&str> for ArcStr {
+    #[inline]
     fn from(text: &str) -> Self {
         Self(Arc::from(text))
     }
 }
 
 impl From<String> for ArcStr {
+    #[inline]
     fn from(text: String) -> Self {
         Self(Arc::from(text))
     }
@@ -30,6 +33,7 @@ impl From<String> for ArcStr {
 
 impl Deref for ArcStr {
     type Target = str;
+    #[inline]
     fn deref(&self) -> &str {
         &self.0
     }

@@ -27,15 +27,18 @@ macro_rules! define_index_type {
         #[allow(dead_code)]
         impl $name {
             /// The bare number.
+            #[inline]
             $vis fn raw(self) -> u32 {
                 self.0
             }
         }
 
         impl $crate::Idx for $name {
+            #[inline]
             fn from_usize(position: usize) -> Self {
                 Self(u32::try_from(position).expect("an index fits in 32 bits"))
             }
+            #[inline]
             fn index(self) -> usize {
                 self.0 as usize
             }
@@ -102,12 +105,14 @@ impl<I, T> Default for IndexVec<I, T> {
 
 impl<I: Idx, T> Index<I> for IndexVec<I, T> {
     type Output = T;
+    #[inline]
     fn index(&self, index: I) -> &T {
         &self.items[index.index()]
     }
 }
 
 impl<I: Idx, T> IndexMut<I> for IndexVec<I, T> {
+    #[inline]
     fn index_mut(&mut self, index: I) -> &mut T {
         &mut self.items[index.index()]
     }

@@ -97,12 +97,14 @@ pub struct ChunkTable {
 
 impl Deref for ChunkTable {
     type Target = IndexVec<ChunkIdx, Chunk>;
+    #[inline]
     fn deref(&self) -> &Self::Target {
         &self.chunks
     }
 }
 
 impl DerefMut for ChunkTable {
+    #[inline]
     fn deref_mut(&mut self) -> &mut Self::Target {
         &mut self.chunks
     }
@@ -114,6 +116,7 @@ pub struct RuntimeHelper;
 
 impl RuntimeHelper {
     /// Adds helpers.
+    #[inline]
     pub fn insert(&mut self, _other: Self) {}
 }
 

@@ -13,6 +13,7 @@ oxc_index::define_index_type! {
 
 impl Numbered for ModuleIdx {
     const KIND: Kind = Kind::Module;
+    #[inline]
     fn number(&self) -> u32 {
         self.raw()
     }
@@ -34,6 +35,7 @@ pub struct NormalModule {
 
 impl NormalModule {
     /// The size, as it is compared with a module size limit.
+    #[inline]
     pub fn size(&self) -> f64 {
         self.size as f64
     }
@@ -71,6 +73,7 @@ pub enum Module {
 
 impl Module {
     /// The module, if it is the build's own.
+    #[inline]
     pub fn as_normal(&self) -> Option<&NormalModule> {
         match self {
             Self::Normal(module) => Some(module),
@@ -79,16 +82,19 @@ impl Module {
     }
 
     /// Whether it is the build's own.
+    #[inline]
     pub fn is_normal(&self) -> bool {
         self.as_normal().is_some()
     }
 
     /// The size in bytes; 0 of an external module.
+    #[inline]
     pub fn size(&self) -> u64 {
         self.as_normal().map_or(0, |module| module.size)
     }
 
     /// The id that callbacks are asked about.
+    #[inline]
     pub fn id(&self) -> &ArcStr {
         match self {
             Self::Normal(module) => &module.id,
@@ -97,6 +103,7 @@ impl Module {
     }
 
     /// The stable id.
+    #[inline]
     pub fn stable_id(&self) -> &ArcStr {
         match self {
             Self::Normal(module) => &module.stable_id,
@@ -105,6 +112,7 @@ impl Module {
     }
 
     /// The execution order.
+    #[inline]
     pub fn exec_order(&self) -> u32 {
         match self {
             Self::Normal(module) => module.exec_order,
@@ -121,12 +129,14 @@ pub struct ModuleTable {
 
 impl Index<ModuleIdx> for ModuleTable {
     type Output = Module;
+    #[inline]
     fn index(&self, index: ModuleIdx) -> &Module {
         &self.modules[index]
     }
 }
 
 impl IndexMut<ModuleIdx> for ModuleTable {
+    #[inline]
     fn index_mut(&mut self, index: ModuleIdx) -> &mut Module {
         &mut self.modules[index]
     }

@@ -21,6 +21,7 @@ pub struct TestRegex(pub Box<dyn Fn(&str) -> bool + Send + Sync>);
 
 impl TestRegex {
     /// Whether the id matches.
+    #[inline]
     pub fn matches(&self, id: &str) -> bool {
         (self.0)(id)
     }

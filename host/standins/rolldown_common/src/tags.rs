@@ -6,6 +6,7 @@ pub struct ModuleTagBitSet(pub u64);
 
 impl ModuleTagBitSet {
     /// Whether every tag of `required` is here.
+    #[inline]
     pub fn contains_all(&self, required: &Self) -> bool {
         required.0 & !self.0 == 0
     }

@@ -15,16 +15,19 @@ impl BitSet {
     }
 
     /// Whether a bit is set.
+    #[inline]
     pub fn has_bit(&self, bit: u32) -> bool {
         self.0[bit as usize / 64] >> (bit % 64) & 1 == 1
     }
 
     /// Sets a bit.
+    #[inline]
     pub fn set_bit(&mut self, bit: u32) {
         self.0[bit as usize / 64] |= 1 << (bit % 64);
     }
 
     /// Adds the bits of another set.
+    #[inline]
     pub fn union(&mut self, other: &Self) {
         for (mine, theirs) in self.0.iter_mut().zip(&other.0) {
             *mine |= theirs;
@@ -32,6 +35,7 @@ impl BitSet {
     }
 
     /// The bits that are set, upwards.
+    #[inline]
     pub fn index_of_one(&self) -> impl Iterator<Item = u32> {
         self.0
             .iter()
@@ -41,6 +45,7 @@ impl BitSet {
 }
 
 /// The bits that are set in one word, upwards.
+#[inline]
 fn ones(mut word: u64) -> impl Iterator<Item = u32> {
     std::iter::from_fn(move || {
         if word == 0 {
@@ -55,23 +60,25 @@ fn ones(mut word: u64) -> impl Iterator<Item = u32> {
 /// A set of indices.
 #[derive(Debug, Clone, PartialEq, Eq)]
 pub struct IndexBitSet<I> {
-    held: Vec<bool>,
+    words: Vec<u64>,
     index: PhantomData<fn(I)>,
 }
 
 impl<I: Idx> IndexBitSet<I> {
     /// None of `length` indices.
     pub fn new(length: usize) -> Self {
-        Self { held: vec![false; length], index: PhantomData }
+        Self { words: vec![0; length.div_ceil(64)], index: PhantomData }
     }
 
     /// Whether an index is held.
+    #[inline]
     pub fn has_bit(&self, index: I) -> bool {
-        self.held[index.index()]
+        self.words[index.index() / 64] >> (index.index() % 64) & 1 == 1
     }
 
     /// Puts an index in.
+    #[inline]
     pub fn set_bit(&mut self, index: I) {
-        self.held[index.index()] = true;
+        self.words[index.index() / 64] |= 1 << (index.index() % 64);
     }
 }

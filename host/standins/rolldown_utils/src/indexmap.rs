@@ -24,35 +24,28 @@ impl<K, V> Default for FxIndexMap<K, V> {
     }
 }
 
-/// A set in the order in which its items first came in.
-#[derive(Debug)]
-pub struct FxIndexSet<T> {
-    items: Vec<T>,
-    held: HashSet<T>,
-}
+/// A set in the order in which its items first came in. Nothing is asked of it but a walk.
+#[derive(Debug, Clone)]
+pub struct FxIndexSet<T>(Vec<T>);
 
 impl<T> Default for FxIndexSet<T> {
     fn default() -> Self {
-        Self { items: Vec::new(), held: HashSet::new() }
+        Self(Vec::new())
     }
 }
 
 impl<T: Copy + Eq + Hash> FromIterator<T> for FxIndexSet<T> {
     fn from_iter<S: IntoIterator<Item = T>>(items: S) -> Self {
-        let mut set = Self::default();
-        for item in items {
-            if set.held.insert(item) {
-                set.items.push(item);
-            }
-        }
-        set
+        let mut held = HashSet::new();
+        Self(items.into_iter().filter(|item| held.insert(*item)).collect())
     }
 }
 
 impl<'a, T> IntoIterator for &'a FxIndexSet<T> {
     type Item = &'a T;
     type IntoIter = std::slice::Iter<'a, T>;
+    #[inline]
     fn into_iter(self) -> Self::IntoIter {
-        self.items.iter()
+        self.0.iter()
     }
 }

@@ -7,27 +7,14 @@
 //! hashes differ, `Own` is one more arbitrary order.
 //!
 //! Choosing an order costs time: each key is noted a second time, and a walk is collected first.
-//! Compiled with `--cfg plain_tables`, for timings alone, both are the standard library's tables
-//! under the same hash, as in `rustc_hash`, and no order can be chosen.
+//! Where time is measured, `plain_hash` takes the place of this crate.
 #![forbid(unsafe_code)]
-#![cfg_attr(plain_tables, allow(dead_code))]
 
 mod hasher;
-#[cfg(not(plain_tables))]
 mod map;
 pub mod order;
-#[cfg(not(plain_tables))]
 mod set;
 
-pub use hasher::FxHasher;
-#[cfg(not(plain_tables))]
+pub use hasher::{FxBuildHasher, FxHasher};
 pub use map::FxHashMap;
-#[cfg(not(plain_tables))]
 pub use set::FxHashSet;
-
-/// The standard library's map.
-#[cfg(plain_tables)]
-pub type FxHashMap<K, V> = std::collections::HashMap<K, V, hasher::Fx>;
-/// The standard library's set.
-#[cfg(plain_tables)]
-pub type FxHashSet<T> = std::collections::HashSet<T, hasher::Fx>;

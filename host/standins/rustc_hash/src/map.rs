@@ -6,16 +6,16 @@ use std::{
 };
 
 use crate::{
-    hasher::Fx,
+    hasher::FxBuildHasher,
     order::{Numbered, Stop, arrange},
 };
 
 /// A hash map. `entry` hands out the standard library's entry, since the crate's text names it.
 #[derive(Debug, Clone)]
 pub struct FxHashMap<K, V> {
-    table: HashMap<K, V, Fx>,
+    table: HashMap<K, V, FxBuildHasher>,
     /// When each key came in; a key that left may still be listed.
-    inserted: HashMap<K, u64, Fx>,
+    inserted: HashMap<K, u64, FxBuildHasher>,
     arrivals: u64,
 }
 
@@ -85,7 +85,7 @@ impl<K: Eq + Hash + Clone + Numbered, V> FxHashMap<K, V> {
 }
 
 /// What the order of a key can be decided by.
-fn stop<K: Eq + Hash + Numbered>(inserted: &HashMap<K, u64, Fx>, key: &K) -> Stop {
+fn stop<K: Eq + Hash + Numbered>(inserted: &HashMap<K, u64, FxBuildHasher>, key: &K) -> Stop {
     Stop { inserted: inserted[key], number: key.number() }
 }
 
