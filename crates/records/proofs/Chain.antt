@@ -109,20 +109,21 @@ module _ (next : List ℕ) where
           let some : 1 ≤ r = omega (arith, eqb-false r 0 e) in
           ⊎-elim (λ q. subst R (sym q) here) (λ t. rest (step r some h) (pass r some h here) k t) (List·Memᴰ·cases-cons m)
 
-  -- the next of a record on a chain that ends is on it too, unless it is the end
+  -- a chain that ends begins with its first record, unless that is the end
+  pub chain-first : (fuel r : ℕ) → ended next fuel r ≡ true → (r ≡ 0) ⊎ List·Memᴰ r (chainFrom next fuel r)
+  chain-first fuel r e = go (ℕ-discrete r 0)
+    where
+      go : Dec (r ≡ 0) → (r ≡ 0) ⊎ List·Memᴰ r (chainFrom next fuel r)
+      go (yes z) = inl z
+      go (no z) = inr (subst (List·Memᴰ r) (sym (chain-rest next fuel r z e)) (List·Memᴰ·head refl))
+
+  -- the next of a record on it is on it too, unless it is the end
   pub chain-next : (fuel r : ℕ) → ended next fuel r ≡ true → (k : ℕ) → List·Memᴰ k (chainFrom next fuel r)
       → (getD next k 0 ≡ 0) ⊎ List·Memᴰ (getD next k 0) (chainFrom next fuel r)
   unfolding chainFrom link ended
   chain-next zero r e k m = absurd (List·Memᴰ·not-nil m)
   chain-next (suc fuel) r e k m = go (eqb r 0) e m (chain-next fuel (getD next r 0))
     where
-      first : (x : ℕ) → ended next fuel x ≡ true → (x ≡ 0) ⊎ List·Memᴰ x (chainFrom next fuel x)
-      first x f = start (ℕ-discrete x 0)
-        where
-          start : Dec (x ≡ 0) → (x ≡ 0) ⊎ List·Memᴰ x (chainFrom next fuel x)
-          start (yes z) = inl z
-          start (no z) = inr (subst (List·Memᴰ x) (sym (chain-rest next fuel x z f)) (List·Memᴰ·head refl))
-
       go : (b : Bool) → (b || ended next fuel (getD next r 0)) ≡ true → List·Memᴰ k (link b r (chainFrom next fuel (getD next r 0)))
           → (ended next fuel (getD next r 0) ≡ true → (k : ℕ) → List·Memᴰ k (chainFrom next fuel (getD next r 0))
           → (getD next k 0 ≡ 0) ⊎ List·Memᴰ (getD next k 0) (chainFrom next fuel (getD next r 0)))
@@ -131,6 +132,6 @@ module _ (next : List ℕ) where
       go false f m rest =
           ⊎-elim
           (λ q. subst (λ (x : ℕ). (getD next x 0 ≡ 0) ⊎ List·Memᴰ (getD next x 0) (r ∷ chainFrom next fuel (getD next r 0))) (sym q)
-          (⊎-elim inl (λ t. inr (List·Memᴰ·tail t)) (first (getD next r 0) f)))
+          (⊎-elim inl (λ t. inr (List·Memᴰ·tail t)) (chain-first fuel (getD next r 0) f)))
           (λ t. ⊎-elim inl (λ u. inr (List·Memᴰ·tail u)) (rest f k t))
           (List·Memᴰ·cases-cons m)

@@ -4,29 +4,20 @@ use Prim.Native.Nat.{ℕ, zero, suc, _+_, _-_, _≤_, _<_}
 use mathlib.Core.Bool.{true, false}
 use mathlib.Core.List.{List, List·Memᴰ}
 use mathlib.Core.Logic.{inl, inr, ⊎-elim}
-use mathlib.Core.Path.{_≡_, refl, sym, ap, _∙_, subst}
+use mathlib.Core.Path.{_≡_, refl, sym, ap, _∙_}
 use native.Mathlib.Nat.{not-suc-le-zero}
 use native.Mathlib.Omega.{arith}
-use lib.ListN.{length, getD, set, replicate, length-replicate, length-set}
+use lib.ListN.{getD, set, replicate, length-replicate, length-set}
 use Rattle.records.specs.Chain.{chainFrom, ended}
 use Rattle.records.specs.Marks.{stored, ChainMarks, Known}
 use Rattle.records.proofs.Chain.{along, chain-in, ended-end, ended-out, ended-step, rest-ended}
 use Rattle.records.proofs.Ends.{ends-within}
-use Rattle.records.proofs.Stored.{one-stored, stored-either, chain-marked}
-
-zeros : (n k : ℕ) → getD {A = ℕ} (replicate n 0) k 0 ≡ 0
-zeros zero k = refl
-zeros (suc n) zero = refl
-zeros (suc n) (suc k) = zeros n k
-
--- zero is known
-pub unknown-some : {next known : List ℕ} {d r : ℕ} → Known next d known → getD known r 0 ≡ 0 → r ≡ 0 → ⊥
-unknown-some {next} {known} p e z = let o : getD known 0 0 ≡ 0 = ap (λ (k : ℕ). getD known k 0) (sym z) ∙ e in omega (arith, p .marks .end)
+use Rattle.records.proofs.Stored.{zeros, one-stored, stored-either, chain-marked}
 
 module _ (next : List ℕ) (d : ℕ) where
   -- a table of zeros with zero marked
   module _ (n : ℕ) (h : d < n) where
-    only-zero : (k : ℕ) → getD {A = ℕ} (set (replicate n 0) 0 1) k 0 ≡ 1 → k ≡ 0
+    pub only-zero : (k : ℕ) → getD {A = ℕ} (set (replicate n 0) 0 1) k 0 ≡ 1 → k ≡ 0
     only-zero k e = ⊎-elim (λ q. q .1) (λ f. let z = zeros n k in absurd (omega arith)) (one-stored 1 (replicate n 0) 0 k)
 
     pub marks-none : ChainMarks next d (set (replicate n 0) 0 1) 0

@@ -3,13 +3,13 @@
 use Prim.Native.Nat.{ℕ, _≤_, _<_}
 use mathlib.Core.Bool.{true}
 use mathlib.Core.List.{List, _∷_}
-use mathlib.Core.Path.{_≡_, refl, sym, ap, _∙_}
+use mathlib.Core.Path.{_≡_, refl, ap, _∙_}
 use native.Mathlib.Omega.{arith}
 use lib.ListN.{length, getD, set, length-set}
 use Rattle.records.specs.Chain.{chainFrom, ended}
 use Rattle.records.specs.Marks.{stored, ChainMarks}
 use Rattle.records.proofs.Chain.{chain-rest, rest-ended}
-use Rattle.records.proofs.Stored.{stored-same, marks-next, marks-from, rest-marked}
+use Rattle.records.proofs.Stored.{unmarked-some, stored-same, marks-next, marks-from, rest-marked}
 
 -- from record r₀ the loop has come to record r
 pub record Marking (next : List ℕ) (d : ℕ) (marks₀ : List ℕ) (r₀ : ℕ) (marks : List ℕ) (r : ℕ) : Type 0 where
@@ -31,7 +31,7 @@ module _ (next : List ℕ) (d : ℕ) (next-in : (r : ℕ) → 1 ≤ r → r ≤ 
 
     module _ (h : getD marks r 0 ≡ 0) where
       some : r ≡ 0 → ⊥
-      some z = let e : getD marks 0 0 ≡ 0 = ap (λ (k : ℕ). getD marks k 0) (sym z) ∙ h in omega (arith, p .marked .end)
+      some = unmarked-some r (p .marked) h
 
       at-record : chainFrom next d r ≡ r ∷ chainFrom next d (getD next r 0)
       at-record = chain-rest next d r some (p .ends)

@@ -7,11 +7,17 @@ use mathlib.Core.Logic.{_⊎_, inl, inr, ⊎-elim}
 use mathlib.Core.Path.{_≡_, refl, sym, ap, _∙_, subst}
 use native.Mathlib.Decide.{ℕ-discrete, decLt}
 use native.Mathlib.Omega.{arith}
-use lib.ListN.{length, getD, set, length-set}
+use lib.ListN.{length, getD, set, replicate, length-set}
 use lib.Seq.{getD-set-same, getD-set-other, set-getD, set-out}
 use Rattle.records.specs.Chain.{chainFrom, ended}
-use Rattle.records.specs.Marks.{stored, ChainMarks, Known}
-use Rattle.records.proofs.Chain.{along, chain-next, rest-ended}
+use Rattle.records.specs.Marks.{stored, ChainMarks}
+use Rattle.records.proofs.Chain.{along, chain-next}
+
+-- a table of zeros, of any length
+pub zeros : (n k : ℕ) → getD {A = ℕ} (replicate n 0) k 0 ≡ 0
+zeros zero k = refl
+zeros (suc n) zero = refl
+zeros (suc n) (suc k) = zeros n k
 
 -- ---- a byte for each record of a list
 
@@ -62,6 +68,10 @@ module _ (v : ℕ) where
 
 pub record-marked : {next marks : List ℕ} {d at : ℕ} (k : ℕ) → ChainMarks next d marks at → (getD marks k 0 ≡ 0 → ⊥) → getD marks k 0 ≡ 1
 record-marked k p h = ⊎-elim (λ e. e) (λ e. absurd (h e)) (p .byte k)
+
+-- zero is marked
+pub unmarked-some : {next marks : List ℕ} {d at : ℕ} (k : ℕ) → ChainMarks next d marks at → getD marks k 0 ≡ 0 → k ≡ 0 → ⊥
+unmarked-some {next} {marks} k p e z = let o : getD marks 0 0 ≡ 0 = ap (λ (j : ℕ). getD marks j 0) (sym z) ∙ e in omega (arith, p .end)
 
 module _ (next : List ℕ) (d : ℕ) (marks : List ℕ) (at : ℕ) (p : ChainMarks next d marks at) where
   -- one record more is marked

@@ -12,8 +12,8 @@ use Rattle.lists.proofs.Below.{any-none, any-some}
 use Rattle.records.specs.Bad.{badChain}
 use Rattle.records.specs.Chain.{ended}
 use Rattle.records.specs.Marks.{Known}
-use Rattle.records.proofs.Stored.{record-marked}
-use Rattle.records.proofs.Known.{known-none, known-more, Along, along-start, along-next, along-known, along-none, unknown-some}
+use Rattle.records.proofs.Stored.{record-marked, unmarked-some}
+use Rattle.records.proofs.Known.{known-none, known-more, Along, along-start, along-next, along-known, along-none}
 use Rattle.records.proofs.bad_chain.Statement.{statement}
 use Rattle.records.proofs.bad_chain.Tie as tie
 
@@ -98,7 +98,7 @@ loop-again : tie.Need-loop-again Inv-loop μ-loop Inv-modules μ-modules
 loop-again c =
     let s = c .before .before .before .before .before .before .before .before .before in
     let l = c .before .before .before .loop in
-    let some = unknown-some (c .before .before .before .before .before .before .modules .inv .3) (c .before .before .loop-test .taken) in (
+    let some = unmarked-some (l .r) (c .before .before .before .before .before .before .modules .inv .3 .marks) (c .before .before .loop-test .taken) in (
       l .inv .0,
       s .pre .next-in (l .r) (omega (arith, some)) (l .inv .1),
       omega (arith, l .inv .2),
@@ -156,7 +156,7 @@ returns-2 c =
     let s = c .before .before .before .before .before .before .before .before .args in
     let o = c .before .before .before .before .before .modules in
     let l = c .before .before .loop in
-    let some = unknown-some (o .inv .3) (c .before .loop-test .taken) in
+    let some = unmarked-some (l .r) (o .inv .3 .marks) (c .before .loop-test .taken) in
     let none = along-none (s .next .now) (s .d) _ (l .left) (l .r) (l .inv .3) (c .if1 .taken) some in
     let below = c .before .before .before .before .modules-test .taken in
     sym (any-some (λ k. not (ended (s .next .now) (s .d) (getD (s .first .now) k 0))) (s .n) (o .m) below (ap not none))
