@@ -39,23 +39,28 @@ module _ (flags first dependency next : List ℕ) (n d : ℕ) (e : badLengths fl
   pub flag-lengths : length flags ≡ n
   flag-lengths = right-length flags n (others .0)
 
-  pub record-tables : RecordTables first dependency next n d
-  record-tables =
+  pub record-tables : badCounts n d ≡ false → RecordTables first dependency next n d
+  record-tables counts =
       let t = neither (badLength first n) (badLength dependency (d + 1) || badLength next (d + 1)) (others .1) in
       let u = neither (badLength dependency (d + 1)) (badLength next (d + 1)) (t .1) in
-      record { firsts = right-length first n (t .0); modules = right-length dependency (d + 1) (u .0); nexts = right-length next (d + 1) (u .1) }
+      record {
+        few = records-within n d counts;
+        firsts = right-length first n (t .0);
+        modules = right-length dependency (d + 1) (u .0);
+        nexts = right-length next (d + 1) (u .1);
+      }
 
 module _ (g : Given) where
   -- the same, with other counts
   abbrev counted : ℕ → ℕ → Given
   counted n d = record { n = n; d = d; recursive = g .recursive; from = g .from; flags = g .flags; first = g .first; dependency = g .dependency; next = g .next }
 
-  module _ (e : badLengths (g .flags) (g .first) (g .dependency) (g .next) (g .n) (g .d) ≡ false) where
+  module _ (counts : badCounts (g .n) (g .d) ≡ false) (e : badLengths (g .flags) (g .first) (g .dependency) (g .next) (g .n) (g .d) ≡ false) where
     flag-count : length (g .flags) ≡ g .n
     flag-count = flag-lengths (g .flags) (g .first) (g .dependency) (g .next) (g .n) (g .d) e
 
     tables : RecordTables (g .first) (g .dependency) (g .next) (g .n) (g .d)
-    tables = record-tables (g .flags) (g .first) (g .dependency) (g .next) (g .n) (g .d) e
+    tables = record-tables (g .flags) (g .first) (g .dependency) (g .next) (g .n) (g .d) e counts
 
     last-record : g .d ≡ length (g .next) - 1
     last-record = omega (arith, tables .nexts)

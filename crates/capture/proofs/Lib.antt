@@ -7,6 +7,8 @@ pub mod Visit
 pub mod Chains
 pub mod Captured
 pub mod Walking
+pub mod Trail
+pub mod Undoing
 pub mod Start
 pub mod Ladder
 pub mod Accepted

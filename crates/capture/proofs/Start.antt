@@ -1,6 +1,6 @@
 -- The three ways of a capture from one module: the start isn't eligible and nothing is captured, recursion is off and the start alone is
 -- captured, or it is a walk from the start.
-use Prim.Native.Nat.{ℕ, zero, suc, _≤_, _<_}
+use Prim.Native.Nat.{ℕ, _≤_, _<_}
 use mathlib.Core.Bool.{true, false, false≢true}
 use mathlib.Core.List.{List}
 use mathlib.Core.Logic.{_↔_, _⊎_, inl, inr, ⊎-elim}
@@ -8,6 +8,7 @@ use mathlib.Core.Path.{_≡_, refl, sym, ap, _∙_, subst}
 use native.Mathlib.Omega.{arith}
 use lib.ListN.{length, getD, set, replicate, length-replicate}
 use lib.Seq.{getD-set-same}
+use Rattle.records.proofs.Stored.{zeros}
 use Rattle.capture.specs.Reached.{Reached, start, further, Marks}
 use Rattle.capture.specs.Capture.{Given, Eligible, Names, Captured}
 use Rattle.capture.specs.Walk.{WalkState}
@@ -18,11 +19,6 @@ use Rattle.capture.proofs.State.{at-store, state-none, state-found}
 -- no module marked but the start
 abbrev pub onlyStart : ℕ → ℕ → List ℕ
 onlyStart n from = set (replicate n 0) from 1
-
-zeros : (n m : ℕ) → getD {A = ℕ} (replicate n 0) m 0 ≡ 0
-zeros zero m = refl
-zeros (suc n) zero = refl
-zeros (suc n) (suc m) = zeros n m
 
 module _ (n from : ℕ) (h : from < n) where
   in-zeros : from < length {A = ℕ} (replicate n 0)

@@ -11,6 +11,7 @@ use Rattle.flags.specs.Flags.{eligibleAt}
 use Rattle.records.specs.Bad.{RecordTables, badRecords}
 use Rattle.capture.specs.Reached.{Reached, Marks}
 use Rattle.capture.specs.Capture.{Eligible, Names}
+use Rattle.capture.specs.Followed.{unfollowed, Followed}
 
 -- the tables of n modules and d records, which refusal 7 does not turn away
 pub record WalkTables (flags first dependency next : List ℕ) (n d : ℕ) : Type 0 where
@@ -41,9 +42,10 @@ pub record WalkState (flags : List ℕ) (n : ℕ) (w : Walk) : Type 0 where
   pub count : w .tail ≡ markedCount (w .marks) n
 
 -- what a walk needs
-pub record WalkReady (flags first dependency next : List ℕ) (n d : ℕ) (w : Walk) : Type 0 where
+pub record WalkReady (flags first dependency next : List ℕ) (n d : ℕ) (w : Walk) (followed : List ℕ) : Type 0 where
   pub tables : WalkTables flags first dependency next n d
   pub state : WalkState flags n w
+  pub clear : followed ≡ unfollowed
 
 -- What a walk leaves: the marks of all that is reached from the modules that were marked before. What the list then holds is free.
 pub record Walked (flags first dependency next : List ℕ) (n d : ℕ) (before after : List ℕ) : Type 0 where
@@ -73,7 +75,8 @@ pub record VisitReady (flags : List ℕ) (w : Walk) (k : ℕ) : Type 0 where
   pub module-in : k < length flags
 
 -- the chain of module m can be followed
-pub record FollowReady (flags first dependency next : List ℕ) (n d : ℕ) (w : Walk) (m : ℕ) : Type 0 where
+pub record FollowReady (flags first dependency next : List ℕ) (n d : ℕ) (w : Walk) (m : ℕ) (followed : List ℕ) : Type 0 where
   pub tables : WalkTables flags first dependency next n d
   pub state : WalkState flags n w
   pub module-in : m < n
+  pub before : Followed flags dependency next d (w .marks) followed 0

@@ -1,5 +1,6 @@
 // The capture of a module: what it reaches along its dependencies through eligible modules.
 pub mod clear;
+pub mod forget;
 pub mod walk;
 
 use index::ModuleIdx;
@@ -75,7 +76,17 @@ fn capture_from(
         return;
     }
     queue[0] = from.0;
-    walk::walk(flags, first, dependency, next, marks, queue, 1);
+    let mut followed = [0u8; 65536];
+    walk::walk(
+        flags,
+        first,
+        dependency,
+        next,
+        marks,
+        queue,
+        &mut followed,
+        1,
+    );
 }
 
 // The number of the first condition on the input that applies, and 0 if none does.

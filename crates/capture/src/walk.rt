@@ -1,10 +1,13 @@
 // The walk along dependencies: a list of modules still to visit, each put on it at most once.
+use crate::forget::forget_all;
 use index::ModuleIdx;
 ghost use mathlib.Core.List.{foldl};
 ghost use mathlib.Core.Path.{_≡_};
 ghost use Prim.Native.Nat.{_-_};
 ghost use lib.ListN.{length};
-ghost use Rattle.records.specs.Chain.{dependencies};
+ghost use Rattle.records.specs.Chain.{chainOf, dependencies};
+ghost use Rattle.records.specs.Marks.{stored};
+ghost use Rattle.capture.specs.Followed.{unfollowed};
 ghost use Rattle.capture.specs.Walk.{WalkReady, Walked, FollowReady, VisitReady, visited};
 
 // A module that a chain names: it is marked and put on the list if it is eligible and not marked yet.
@@ -30,7 +33,8 @@ pub fn visit(
     tail + 1
 }
 
-// Visits the modules that are named along a module's chain.
+// Visits the modules that are named along a module's chain, up to a record that was followed before: all that the rest of the chain names has
+// been visited.
 fn follow(
     flags: &[u8],
     first: &[u32],
@@ -38,23 +42,30 @@ fn follow(
     next: &[u32],
     marks: &mut [u8],
     queue: &mut [u32],
+    followed: &mut [u8],
     tail: usize,
     of: ModuleIdx,
 ) -> usize
-    requires { ⌜ FollowReady (now flags) (now first) (now dependency) (now next) (length (now flags)) (length (now next) - 1) (record { marks = now marks; queue = now queue; tail = tail }) (of .0) ⌝ }
-    ensures { λ r. ⌜ foldl (visited (now (flags .entry))) (record { marks = now (marks .entry); queue = now (queue .entry); tail = tail }) (dependencies (now (first .entry)) (now (dependency .entry)) (now (next .entry)) (length (now (next .entry)) - 1) (of .0)) ≡ record { marks = now (marks .exit); queue = now (queue .exit); tail = r } ⌝ }
+    requires { ⌜ FollowReady (now flags) (now first) (now dependency) (now next) (length (now flags)) (length (now next) - 1)
+        (record { marks = now marks; queue = now queue; tail = tail }) (of .0) (now followed) ⌝ }
+    ensures { λ r. ⌜ foldl (visited (now (flags .entry))) (record { marks = now (marks .entry); queue = now (queue .entry); tail = tail })
+        (dependencies (now (first .entry)) (now (dependency .entry)) (now (next .entry)) (length (now (next .entry)) - 1) (of .0))
+        ≡ record { marks = now (marks .exit); queue = now (queue .exit); tail = r } ⌝ }
+    ensures { λ _. ⌜ now (followed .exit)
+        ≡ stored 1 (chainOf (now (first .entry)) (now (next .entry)) (length (now (next .entry)) - 1) (of .0)) (now (followed .entry)) ⌝ }
 {
     let at = of.0 as usize;
     let mut found = tail;
     let mut r = first[at] as usize;
-    while r != 0 {
+    while followed[r] == 0 {
+        followed[r] = 1;
         found = visit(flags, marks, queue, found, ModuleIdx(dependency[r]));
         r = next[r] as usize;
     }
     found
 }
 
-// Marks all that is reached from the modules marked so far, which are the first `tail` of the list.
+// Marks all that is reached from the modules marked so far, which are the first `tail` of the list. Zero, which ends a chain, counts as followed.
 pub fn walk(
     flags: &[u8],
     first: &[u32],
@@ -62,16 +73,32 @@ pub fn walk(
     next: &[u32],
     marks: &mut [u8],
     queue: &mut [u32],
+    followed: &mut [u8],
     tail: usize,
 )
-    requires { ⌜ WalkReady (now flags) (now first) (now dependency) (now next) (length (now flags)) (length (now next) - 1) (record { marks = now marks; queue = now queue; tail = tail }) ⌝ }
-    ensures { λ _. ⌜ Walked (now (flags .entry)) (now (first .entry)) (now (dependency .entry)) (now (next .entry)) (length (now (flags .entry))) (length (now (next .entry)) - 1) (now (marks .entry)) (now (marks .exit)) ⌝ }
+    requires { ⌜ WalkReady (now flags) (now first) (now dependency) (now next) (length (now flags)) (length (now next) - 1)
+        (record { marks = now marks; queue = now queue; tail = tail }) (now followed) ⌝ }
+    ensures { λ _. ⌜ Walked (now (flags .entry)) (now (first .entry)) (now (dependency .entry)) (now (next .entry)) (length (now (flags .entry)))
+        (length (now (next .entry)) - 1) (now (marks .entry)) (now (marks .exit)) ⌝ }
+    ensures { λ _. ⌜ now (followed .exit) ≡ unfollowed ⌝ }
 {
     let mut found = tail;
     let mut head = 0;
+    followed[0] = 1;
     while head < found {
         let of = ModuleIdx(queue[head]);
-        found = follow(flags, first, dependency, next, marks, queue, found, of);
+        found = follow(
+            flags,
+            first,
+            dependency,
+            next,
+            marks,
+            queue,
+            followed,
+            found,
+            of,
+        );
         head = head + 1;
     }
+    forget_all(first, next, &queue[..found], followed);
 }

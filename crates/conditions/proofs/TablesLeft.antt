@@ -1,5 +1,5 @@
 -- What condition 2 leaves: tables of the lengths that the counts imply; and with 1 and 10, answers whose pairs can be counted.
-use Prim.Native.Nat.{ℕ, _+_, _*_}
+use Prim.Native.Nat.{ℕ, _+_, _*_, _≤_}
 use mathlib.Core.Bool.{Bool, false, _||_, not}
 use mathlib.Core.Path.{_≡_}
 use native.Mathlib.Omega.{arith}
@@ -7,6 +7,7 @@ use borrow.Author.Tests.{leb-false, eqb-true, not-false}
 use lib.Dec.{leb, eqb}
 use lib.ListN.{length, getD}
 use Rattle.lists.proofs.Below.{neither, none-of}
+use Rattle.refusal.specs.Counts.{recordLimit}
 use Rattle.records.specs.Bad.{RecordTables}
 use Rattle.options.specs.Tables.{GroupTables}
 use Rattle.grouping.specs.Given.{Given}
@@ -23,7 +24,7 @@ pub record TablesPassed (b : Given) : Type 0 where
   pub tags : length (b .shared .tags) ≡ b .shared .n
   pub bits : length (b .shared .bits) ≡ 4 * b .shared .n
   pub offsets : length (b .shared .offsets) ≡ b .shared .n + 1
-  pub records : RecordTables (b .shared .first) (b .shared .dependency) (b .shared .next) (b .shared .n) (b .shared .d)
+  pub records : b .shared .d ≤ recordLimit → RecordTables (b .shared .first) (b .shared .dependency) (b .shared .next) (b .shared .n) (b .shared .d)
   pub groups : HasGroups (b .variant .groups) (b .variant .g)
   pub answers : length (b .variant .answers) ≡ b .variant .g * b .shared .n
 
@@ -60,15 +61,15 @@ has-groups t g e i h =
 
 module _ (b : Given) where
   record-tables : badRecordTable b ≡ false
-      → (length (b .shared .offsets) ≡ b .shared .n + 1) × RecordTables (b .shared .first) (b .shared .dependency) (b .shared .next) (b .shared .n)
-      (b .shared .d)
+      → (length (b .shared .offsets) ≡ b .shared .n + 1)
+      × (b .shared .d ≤ recordLimit → RecordTables (b .shared .first) (b .shared .dependency) (b .shared .next) (b .shared .n) (b .shared .d))
   unfolding badRecordTable
   record-tables e =
       let s = b .shared in
       let o = next (length (s .offsets)) (s .n + 1) _ e in
       let f = next (length (s .first)) (s .n) _ (o .1) in
       let d = next (length (s .dependency)) (s .d + 1) _ (f .1) in
-      (o .0, record { firsts = f .0; modules = d .0; nexts = last (length (s .next)) (s .d + 1) (d .1) })
+      (o .0, λ few. record { few = few; firsts = f .0; modules = d .0; nexts = last (length (s .next)) (s .d + 1) (d .1) })
 
   pub tables-passed : badTable b ≡ false → TablesPassed b
   unfolding badTable badModuleTable

@@ -6,6 +6,7 @@ use sets::matched::match_group;
 ghost use mathlib.Core.Path.{_≡_};
 ghost use Prim.Native.Nat.{_*_, _≤_};
 ghost use lib.ListN.{length};
+ghost use Rattle.capture.specs.Followed.{unfollowed};
 ghost use Rattle.names.specs.Turn.{NamesRoom};
 ghost use Rattle.groups.specs.Turn.{GroupTurning, GroupTurned, GroupsTurning, GroupsTurned};
 
@@ -30,6 +31,7 @@ fn convert_group(
     number: ChunkIdx,
     at: usize,
     marks: &mut [u8],
+    followed: &mut [u8],
     set: &mut [u32],
     scratch: &mut [u32],
     chunk_of: &mut [u32],
@@ -48,7 +50,7 @@ fn convert_group(
           size-of = now «size_of»;
           bits-of = now «bits_of»;
         }) ⌝ }
-    requires { ⌜ NamesRoom n (now flags) (now order) (now marks) (now set) (now scratch) ⌝ }
+    requires { ⌜ NamesRoom n (now flags) (now order) (now marks) (now followed) (now set) (now scratch) ⌝ }
     ensures { λ r. ⌜ GroupTurned (record {
       bytes = now (bytes .entry);
       offsets = now (offsets .entry);
@@ -78,7 +80,7 @@ fn convert_group(
           bits-of = now («bits_of» .exit);
         }) ⌝ }
     ensures { λ _. ⌜ (length (now (marks .exit)) ≡ length (now (marks .entry))) × (length (now (set .exit)) ≡ length (now (set .entry)))
-        × (length (now (scratch .exit)) ≡ length (now (scratch .entry))) ⌝ }
+        × (length (now (scratch .exit)) ≡ length (now (scratch .entry))) × (now (followed .exit) ≡ unfollowed) ⌝ }
 {
     let mut keys = [0u64; 4096];
     let mut spare = [0u64; 4096];
@@ -113,6 +115,7 @@ fn convert_group(
         number,
         at,
         marks,
+        followed,
         set,
         scratch,
         chunk_of,
@@ -196,6 +199,7 @@ pub fn convert_groups_to_chunks(
     ensures { λ _. ⌜ (length (now (scratch .exit)) ≡ length (now (scratch .entry))) ⌝ }
 {
     let mut marks = [0u8; 4096];
+    let mut followed = [0u8; 65536];
     let mut set = [0u32; 4096];
     let mut made = 0;
     let mut i = 0;
@@ -225,6 +229,7 @@ pub fn convert_groups_to_chunks(
                 ChunkIdx(number.0 + made as u32),
                 at + made,
                 &mut marks[..n],
+                &mut followed,
                 &mut set,
                 scratch,
                 chunk_of,

@@ -15,6 +15,7 @@ use Rattle.lists.proofs.Position.{getD-mem}
 use Rattle.lists.proofs.Runs.{Ascending, Boundary, Run, run-of, run-keeps}
 use Rattle.lists.proofs.Sort.{pairs-weaker}
 use Rattle.records.specs.Bad.{badRecords}
+use Rattle.capture.specs.Followed.{unfollowed}
 use Rattle.capture.specs.Walk.{WalkTables}
 use Rattle.options.specs.declared.Settings.{Settings}
 use Rattle.grouping.specs.Given.{Given}
@@ -68,7 +69,7 @@ module _ {b : Given} {w : Walking} {settings : Settings} {group : ℕ} {matched 
       rw (fits .walks .flags, fits .walks .first, fits .walks .dependency, fits .walks .next)
       (record {
         flag-bytes = refl;
-        records = record { firsts = omega (arith, r .firsts); modules = omega (arith, r .modules); nexts = omega (arith, r .nexts) };
+        records = record { few = omega (arith, r .few); firsts = omega (arith, r .firsts); modules = omega (arith, r .modules); nexts = omega (arith, r .nexts) };
         good = subst₂ (λ (i j : ℕ). badRecords (s .first) (s .dependency) (s .next) i j ≡ false) n d (ok .records);
       })
 
@@ -88,13 +89,15 @@ module _ {b : Given} {w : Walking} {settings : Settings} {group : ℕ} {matched 
         subst (λ (x : ℕ). itemOf x < length (w .order)) (sym (getD-take (to - from) (drop from matched) i 0 u ∙ getD-drop from matched i 0))
         (place-in _ (getD-mem matched (from + i) 0 (omega arith)))
 
-    pub set-ready : {marks queue area : List ℕ} → length marks ≡ length (w .flags) → length (w .flags) ≤ length queue → length (w .flags) ≤ length area
-        → SetReady (w .flags) (w .first) (w .dependency) (w .next) (w .order) (part from to) marks queue area
-    set-ready m q a =
+    pub set-ready : {marks queue followed area : List ℕ} → length marks ≡ length (w .flags) → length (w .flags) ≤ length queue → followed ≡ unfollowed
+        → length (w .flags) ≤ length area
+        → SetReady (w .flags) (w .first) (w .dependency) (w .next) (w .order) (part from to) marks queue followed area
+    set-ready m q f a =
         record {
           tables = walk-tables;
           mark-bytes = m;
           queue-room = q;
+          clear = f;
           modules-in = module-in;
           placed = run-placed;
           room = omega (arith, order-few);

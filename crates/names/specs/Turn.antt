@@ -3,6 +3,7 @@ use Prim.Native.Nat.{ℕ, _*_, _≤_, _<_}
 use mathlib.Core.List.{List, foldl}
 use mathlib.Core.Path.{_≡_}
 use lib.ListN.{length}
+use Rattle.capture.specs.Followed.{unfollowed}
 use Rattle.options.specs.declared.Settings.{Settings}
 use Rattle.grouping.specs.Given.{Given}
 use Rattle.grouping.specs.Settings.{settingsOf}
@@ -28,13 +29,14 @@ pub record NamesTurning (t : Tables) (w : Walking) (bits : List ℕ) (settings :
   pub turning : Turning t bits number at now
   pub fits : GroupFits (turning .b) w settings group matched
 
--- the work tables are as long as the modules need
-pub record NamesRoom (n : ℕ) (flags order marks set scratch : List ℕ) : Type 0 where
+-- the work tables are as long as the modules need, and no record is marked as followed
+pub record NamesRoom (n : ℕ) (flags order marks followed set scratch : List ℕ) : Type 0 where
   pub few : n ≤ 4096
   pub modules : length flags ≡ n
   pub mark-bytes : length marks ≡ n
   pub set-room : n ≤ length set
   pub scratch-room : 3 * n ≤ length scratch
+  pub clear : followed ≡ unfollowed
 
 -- the sets of the group's names have had their turns
 pub record NamesTurned (t : Tables) (w : Walking) (bits : List ℕ) (settings : Settings) (group : ℕ) (matched : List ℕ) (number at count : ℕ)

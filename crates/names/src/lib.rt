@@ -11,6 +11,7 @@ use sets::matched::run_end;
 ghost use mathlib.Core.Path.{_≡_};
 ghost use Prim.Native.Nat.{_*_, _≤_};
 ghost use lib.ListN.{length};
+ghost use Rattle.capture.specs.Followed.{unfollowed};
 ghost use Rattle.grouping.specs.WorkList.{itemsOfSet};
 ghost use Rattle.running.specs.Turns.{SetTurning, SetTurned};
 ghost use Rattle.names.specs.Turn.{NamesTurning, NamesRoom, NamesTurned};
@@ -142,6 +143,7 @@ pub fn convert_names(
     number: ChunkIdx,
     at: usize,
     marks: &mut [u8],
+    followed: &mut [u8],
     set: &mut [u32],
     scratch: &mut [u32],
     chunk_of: &mut [u32],
@@ -168,7 +170,7 @@ pub fn convert_names(
       size-of = now («size_of»);
       bits-of = now («bits_of»);
     }) ⌝ }
-    requires { ⌜ NamesRoom n (now flags) (now order) (now marks) (now set) (now scratch) ⌝ }
+    requires { ⌜ NamesRoom n (now flags) (now order) (now marks) (now followed) (now set) (now scratch) ⌝ }
     ensures { λ r. ⌜ NamesTurned (record {
       bytes = now (bytes .entry);
       offsets = now (offsets .entry);
@@ -194,7 +196,7 @@ pub fn convert_names(
       bits-of = now («bits_of» .exit);
     }) ⌝ }
     ensures { λ _. ⌜ (length (now (marks .exit)) ≡ length (now (marks .entry))) × (length (now (set .exit)) ≡ length (now (set .entry)))
-        × (length (now (scratch .exit)) ≡ length (now (scratch .entry))) ⌝ }
+        × (length (now (scratch .exit)) ≡ length (now (scratch .entry))) × (now (followed .exit) ≡ unfollowed) ⌝ }
 {
     let mut made = 0;
     let mut from = 0;
@@ -210,6 +212,7 @@ pub fn convert_names(
             &matched[from..to],
             marks,
             &mut scratch[..n],
+            followed,
             set,
         );
         made = made

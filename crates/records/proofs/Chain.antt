@@ -1,9 +1,10 @@
--- Laws of chains: one record more, what more fuel gives once a chain has ended, and the range of the records on a chain.
+-- Laws of chains: one record more, what more fuel gives once a chain has ended, the range of the records on a chain, and what they pass on.
 use Prim.Native.Nat.{ℕ, zero, suc, _+_, _≤_}
 use mathlib.Core.Bool.{Bool, true, false, _||_, false≢true}
-use mathlib.Core.List.{List, [], _∷_, List·Memᴰ, List·Memᴰ·cases-cons, List·Memᴰ·not-nil}
-use mathlib.Core.Logic.{⊎-elim}
-use mathlib.Core.Path.{_≡_, refl, sym, ap, _∙_}
+use mathlib.Core.List.{List, [], _∷_, List·Memᴰ, List·Memᴰ·head, List·Memᴰ·tail, List·Memᴰ·cases-cons, List·Memᴰ·not-nil}
+use mathlib.Core.Logic.{_⊎_, inl, inr, ⊎-elim}
+use mathlib.Core.Path.{_≡_, refl, sym, ap, _∙_, subst}
+use native.Mathlib.Decide.{ℕ-discrete}
 use native.Mathlib.Nat.{suc-add, zero-add}
 use native.Mathlib.Omega.{arith}
 use borrow.Author.Tests.{ne-eqb, eqb-false}
@@ -90,3 +91,47 @@ chain-in next d step (suc fuel) r h k m = go (eqb r 0) refl m (chain-in next d s
     go false e m rest =
         let some : 1 ≤ r = omega (arith, eqb-false r 0 e) in
         ⊎-elim (λ q. (omega arith, omega arith)) (λ t. rest (step r some h) k t) (List·Memᴰ·cases-cons m)
+
+-- ---- along a chain
+
+module _ (next : List ℕ) where
+  -- what a record has and passes on to its next, all records of its chain have
+  pub along : (d : ℕ) → ((r : ℕ) → 1 ≤ r → r ≤ d → getD next r 0 ≤ d) → (R : ℕ → Type 0) → ((r : ℕ) → 1 ≤ r → r ≤ d → R r → R (getD next r 0))
+      → (fuel r : ℕ) → r ≤ d → R r → (k : ℕ) → List·Memᴰ k (chainFrom next fuel r) → R k
+  unfolding chainFrom link
+  along d step R pass zero r h here k m = absurd (List·Memᴰ·not-nil m)
+  along d step R pass (suc fuel) r h here k m = go (eqb r 0) refl m (along d step R pass fuel (getD next r 0))
+    where
+      go : (b : Bool) → eqb r 0 ≡ b → List·Memᴰ k (link b r (chainFrom next fuel (getD next r 0)))
+          → (getD next r 0 ≤ d → R (getD next r 0) → (k : ℕ) → List·Memᴰ k (chainFrom next fuel (getD next r 0)) → R k) → R k
+      go true e m rest = absurd (List·Memᴰ·not-nil m)
+      go false e m rest =
+          let some : 1 ≤ r = omega (arith, eqb-false r 0 e) in
+          ⊎-elim (λ q. subst R (sym q) here) (λ t. rest (step r some h) (pass r some h here) k t) (List·Memᴰ·cases-cons m)
+
+  -- a chain that ends begins with its first record, unless that is the end
+  pub chain-first : (fuel r : ℕ) → ended next fuel r ≡ true → (r ≡ 0) ⊎ List·Memᴰ r (chainFrom next fuel r)
+  chain-first fuel r e = go (ℕ-discrete r 0)
+    where
+      go : Dec (r ≡ 0) → (r ≡ 0) ⊎ List·Memᴰ r (chainFrom next fuel r)
+      go (yes z) = inl z
+      go (no z) = inr (subst (List·Memᴰ r) (sym (chain-rest next fuel r z e)) (List·Memᴰ·head refl))
+
+  -- the next of a record on it is on it too, unless it is the end
+  pub chain-next : (fuel r : ℕ) → ended next fuel r ≡ true → (k : ℕ) → List·Memᴰ k (chainFrom next fuel r)
+      → (getD next k 0 ≡ 0) ⊎ List·Memᴰ (getD next k 0) (chainFrom next fuel r)
+  unfolding chainFrom link ended
+  chain-next zero r e k m = absurd (List·Memᴰ·not-nil m)
+  chain-next (suc fuel) r e k m = go (eqb r 0) e m (chain-next fuel (getD next r 0))
+    where
+      go : (b : Bool) → (b || ended next fuel (getD next r 0)) ≡ true → List·Memᴰ k (link b r (chainFrom next fuel (getD next r 0)))
+          → (ended next fuel (getD next r 0) ≡ true → (k : ℕ) → List·Memᴰ k (chainFrom next fuel (getD next r 0))
+          → (getD next k 0 ≡ 0) ⊎ List·Memᴰ (getD next k 0) (chainFrom next fuel (getD next r 0)))
+          → (getD next k 0 ≡ 0) ⊎ List·Memᴰ (getD next k 0) (link b r (chainFrom next fuel (getD next r 0)))
+      go true f m rest = absurd (List·Memᴰ·not-nil m)
+      go false f m rest =
+          ⊎-elim
+          (λ q. subst (λ (x : ℕ). (getD next x 0 ≡ 0) ⊎ List·Memᴰ (getD next x 0) (r ∷ chainFrom next fuel (getD next r 0))) (sym q)
+          (⊎-elim inl (λ t. inr (List·Memᴰ·tail t)) (chain-first fuel (getD next r 0) f)))
+          (λ t. ⊎-elim inl (λ u. inr (List·Memᴰ·tail u)) (rest f k t))
+          (List·Memᴰ·cases-cons m)

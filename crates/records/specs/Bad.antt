@@ -27,14 +27,16 @@ unfoldable pub badRecords : List ℕ → List ℕ → List ℕ → ℕ → ℕ �
 unfolding badFirst badRecord badChain
 badRecords first dependency next n d = badFirst first n d || (badRecord dependency next n d || badChain first next n d)
 
--- tables of the lengths that n modules and d records imply
+-- tables of the lengths that n modules and d records imply, of which there are no more than the limit allows
 pub record RecordTables (first dependency next : List ℕ) (n d : ℕ) : Type 0 where
+  pub few : d ≤ 65535
   pub firsts : length first ≡ n
   pub modules : length dependency ≡ d + 1
   pub nexts : length next ≡ d + 1
 
 -- chains can be walked: no first and no next leads out of the table
 pub record ChainTables (first next : List ℕ) (n d : ℕ) : Type 0 where
+  pub few : d ≤ 65535
   pub firsts : n ≤ length first
   pub nexts : length next ≡ d + 1
   pub first-in : (m : ℕ) → m < n → getD first m 0 ≤ d

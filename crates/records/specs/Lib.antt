@@ -1,3 +1,4 @@
 -- Dependency records and their chains.
 pub mod Chain
 pub mod Bad
+pub mod Marks

@@ -3,6 +3,8 @@ ghost use mathlib.Core.Path.{_≡_};
 ghost use mathlib.Core.Bool.{false};
 ghost use Prim.Native.Nat.{_+_, _≤_};
 ghost use lib.ListN.{length};
+ghost use Rattle.records.specs.Chain.{chainFrom};
+ghost use Rattle.records.specs.Marks.{stored, KnowReady};
 ghost use Rattle.records.specs.Bad.{badFirst, badRecord, badChain, badRecords, RecordTables, ChainTables};
 
 // A first record above d.
@@ -38,17 +40,33 @@ fn bad_record(dependency: &[u32], next: &[u32], n: usize, d: usize) -> bool
     false
 }
 
-// A chain without its zero within d records. The first bad chain leaves both loops.
+// The records of a chain that ends are marked as known to end, up to its zero or to one that is known already.
+fn know_chain(next: &[u32], known: &mut [u8], d: usize, from: usize)
+    requires { ⌜ KnowReady (now next) (now known) d from ⌝ }
+    ensures { λ _. ⌜ now (known .exit) ≡ stored 1 (chainFrom (now (next .entry)) d from) (now (known .entry)) ⌝ }
+{
+    let mut r = from;
+    while known[r] == 0 {
+        known[r] = 1;
+        r = next[r] as usize;
+    }
+}
+
+// A chain without its zero within d records. The first bad chain leaves both loops. A chain is gone along only up to a record that is known to
+// end, as zero is from the start, so that chains which share records cost no more than their records.
 fn bad_chain(first: &[u32], next: &[u32], n: usize, d: usize) -> bool
     requires { ⌜ ChainTables (now first) (now next) n d ⌝ }
     ensures { λ r. ⌜ r ≡ badChain (now (first .entry)) (now (next .entry)) n d ⌝ }
 {
+    let mut known = [0u8; 65536];
+    known[0] = 1;
     let mut bad = false;
     let mut m = 0;
     'modules: while m < n {
-        let mut r = first[m] as usize;
+        let start = first[m] as usize;
+        let mut r = start;
         let mut left = d;
-        while r != 0 {
+        while known[r] == 0 {
             if left == 0 {
                 bad = true;
                 break 'modules;
@@ -56,6 +74,7 @@ fn bad_chain(first: &[u32], next: &[u32], n: usize, d: usize) -> bool
             left = left - 1;
             r = next[r] as usize;
         }
+        know_chain(next, &mut known, d, start);
         m = m + 1;
     }
     bad

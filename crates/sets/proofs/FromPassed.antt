@@ -17,7 +17,7 @@ use Rattle.lists.proofs.KeepLength.{keep-le}
 use Rattle.lists.proofs.Members.{mem-keep, mem-range}
 use Rattle.lists.proofs.Position.{mem-getD}
 use Rattle.lists.proofs.Range.{length-range}
-use Rattle.refusal.specs.Counts.{moduleLimit, groupLimit, entryLimit, nameLimit}
+use Rattle.refusal.specs.Counts.{moduleLimit, groupLimit, entryLimit, nameLimit, recordLimit}
 use Rattle.whole.specs.Total.{totalLimit, totalExceeds}
 use Rattle.flags.specs.Flags.{listed, assigned, eligible, eligibleAt}
 use Rattle.merge.proofs.Totals.{one-of-sum}
@@ -70,6 +70,16 @@ module _ (b : Given) (ok : Passed b) where
   pub flag-bytes : length (b .variant .flags) ≡ b .shared .n
   flag-bytes = module-tables .0
 
+  -- condition 1: names and records
+  counts-few : (b .shared .k ≤ 65535) × (b .shared .d ≤ 65535)
+  unfolding countAbove
+  counts-few =
+      let groups = neither (ltb moduleLimit (b .shared .n)) _ (ok .counts) .1 in
+      let entries = neither (ltb groupLimit (b .variant .g)) _ groups .1 in
+      let names = neither (ltb entryLimit (b .shared .e)) _ entries .1 in
+      let records = neither (ltb nameLimit (b .shared .k)) _ names in
+      (ltb-false nameLimit (b .shared .k) (records .0), ltb-false recordLimit (b .shared .d) (records .1))
+
   pub record-tables : RecordTables (b .shared .first) (b .shared .dependency) (b .shared .next) (b .shared .n) (b .shared .d)
   unfolding badTable badRecordTable
   record-tables =
@@ -77,7 +87,7 @@ module _ (b : Given) (ok : Passed b) where
       let o = next (length (s .offsets)) (s .n + 1) _ (neither (badRecordTable b) _ (neither (badModuleTable b) _ (ok .tables) .1) .0) in
       let f = next (length (s .first)) (s .n) _ (o .1) in
       let d = next (length (s .dependency)) (s .d + 1) _ (f .1) in
-      record { firsts = f .0; modules = d .0; nexts = last (length (s .next)) (s .d + 1) (d .1) }
+      record { few = counts-few .1; firsts = f .0; modules = d .0; nexts = last (length (s .next)) (s .d + 1) (d .1) }
 
   -- ---- the answers
 
@@ -105,14 +115,6 @@ module _ (b : Given) (ok : Passed b) where
         let e = none-of above (b .variant .g * b .shared .n) (ok .answers) i (omega (arith, row-fits)) in
         subst (λ (a : ℕ). a < b .shared .k + 2) (sym (answer-at b g m l)) (leb-false (b .shared .k + 2) (getD (b .variant .answers) i 0) e)
 
-    names-few : b .shared .k ≤ 65535
-    unfolding countAbove
-    names-few =
-        let groups = neither (ltb moduleLimit (b .shared .n)) _ (ok .counts) .1 in
-        let entries = neither (ltb groupLimit (b .variant .g)) _ groups .1 in
-        let names = neither (ltb entryLimit (b .shared .e)) _ entries .1 in
-        ltb-false nameLimit (b .shared .k) (neither (ltb nameLimit (b .shared .k)) _ names .0)
-
     -- condition 6: no size is above the limit of the total
     size-whole : (m : ℕ) → m < b .shared .n → isEligible b m ≡ true → getD (b .shared .sizes) m 0 ≤ 2 ^ 53
     unfolding badTotal totalExceeds eligibleAt eligible
@@ -132,5 +134,5 @@ module _ (b : Given) (ok : Passed b) where
       sized = omega (arith, module-tables .1);
       shared = omega (arith, module-tables .2);
       whole = size-whole m l e;
-      name = omega (arith, answer-below m l, names-few);
+      name = omega (arith, answer-below m l, counts-few .0);
     }

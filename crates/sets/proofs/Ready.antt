@@ -16,6 +16,7 @@ use Rattle.lists.proofs.Position.{getD-mem}
 use Rattle.lists.proofs.Runs.{Boundary, Run, run-of, run-keeps}
 use Rattle.lists.proofs.Sort.{sort-mem}
 use Rattle.sorts.proofs.Halves.{sort-length}
+use Rattle.capture.specs.Followed.{unfollowed}
 use Rattle.capture.specs.Walk.{WalkTables}
 use Rattle.grouping.specs.Given.{Given}
 use Rattle.grouping.specs.Conditions.{badDependency}
@@ -112,14 +113,15 @@ module _ (b : Given) (ok : Passed b) where
     unfolding runOf
     run-is run = sym (run-keeps keyOf run)
 
-    pub set-ready : (name : ℕ) {run marks queue area : List ℕ} → run ≡ runOf b g name → length marks ≡ length (b .variant .flags)
-        → length (b .variant .flags) ≤ length queue → length (placesOf b) ≤ length area
-        → SetReady (b .variant .flags) (b .shared .first) (b .shared .dependency) (b .shared .next) (placesOf b) run marks queue area
-    set-ready name {run} {area = area} e m q r =
+    pub set-ready : (name : ℕ) {run marks queue followed area : List ℕ} → run ≡ runOf b g name → length marks ≡ length (b .variant .flags)
+        → length (b .variant .flags) ≤ length queue → followed ≡ unfollowed → length (placesOf b) ≤ length area
+        → SetReady (b .variant .flags) (b .shared .first) (b .shared .dependency) (b .shared .next) (placesOf b) run marks queue followed area
+    set-ready name {run} {area = area} e m q f r =
         record {
           tables = walk-tables;
           mark-bytes = m;
           queue-room = q;
+          clear = f;
           modules-in = λ p u. omega (arith, flag-bytes b ok, at-place p u);
           placed = subst (λ (l : List ℕ). Placed l (placesOf b)) (sym e) placed;
           room = r;

@@ -7,6 +7,7 @@ use lib.Dec.{eqb}
 use lib.ListN.{length, getD}
 use Rattle.lists.specs.Keep.{keep}
 use Rattle.lists.specs.Packed.{itemOf}
+use Rattle.capture.specs.Followed.{unfollowed}
 use Rattle.capture.specs.Walk.{WalkTables}
 use Rattle.sets.specs.Area.{Holds}
 use Rattle.sets.specs.Captured.{AllCaptured}
@@ -34,10 +35,11 @@ abbrev pub Placed : List ℕ → List ℕ → Type 0
 Placed run order = (i : ℕ) → i < length run → itemOf (getD run i 0) < length order
 
 -- the tables of a walk, places for the run, and room for all modules
-pub record SetReady (flags first dependency next order run marks queue area : List ℕ) : Type 0 where
+pub record SetReady (flags first dependency next order run marks queue followed area : List ℕ) : Type 0 where
   pub tables : WalkTables flags first dependency next (length flags) (length next - 1)
   pub mark-bytes : length marks ≡ length flags
   pub queue-room : length flags ≤ length queue
+  pub clear : followed ≡ unfollowed
   pub modules-in : (i : ℕ) → i < length order → getD order i 0 < length flags
   pub placed : Placed run order
   pub room : length order ≤ length area

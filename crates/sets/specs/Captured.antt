@@ -5,6 +5,7 @@ use mathlib.Core.Path.{_≡_}
 use lib.ListN.{length, getD}
 use Rattle.capture.specs.Reached.{Reached, Marks}
 use Rattle.capture.specs.Capture.{Eligible, Names}
+use Rattle.capture.specs.Followed.{unfollowed}
 use Rattle.capture.specs.Walk.{WalkTables, WalkState}
 
 -- each start is one of the n modules
@@ -17,11 +18,12 @@ pub record StartsReady (flags starts marks queue : List ℕ) : Type 0 where
   pub starts-in : StartsIn starts (length flags)
 
 -- what a walk from the starts needs
-pub record AllReady (flags first dependency next starts marks queue : List ℕ) : Type 0 where
+pub record AllReady (flags first dependency next starts marks queue followed : List ℕ) : Type 0 where
   pub tables : WalkTables flags first dependency next (length flags) (length next - 1)
   pub starts-in : StartsIn starts (length flags)
   pub mark-bytes : length marks ≡ length flags
   pub room : length flags ≤ length queue
+  pub clear : followed ≡ unfollowed
 
 -- the captures of the starts, taken together
 abbrev pub AllCaptured : List ℕ → List ℕ → List ℕ → List ℕ → List ℕ → List ℕ → Type 0

@@ -2,6 +2,7 @@
 use crate::captured::capture_all;
 ghost use mathlib.Core.Path.{_≡_};
 ghost use lib.ListN.{length};
+ghost use Rattle.capture.specs.Followed.{unfollowed};
 ghost use Rattle.sets.specs.Area.{Holds};
 ghost use Rattle.sets.specs.Built.{markedIn, startsOf, MarkedReady, Placed, SetReady, SetBuilt};
 
@@ -46,17 +47,28 @@ pub fn build_set(
     run: &[u32],
     marks: &mut [u8],
     queue: &mut [u32],
+    followed: &mut [u8],
     set: &mut [u32],
 ) -> usize
-    requires { ⌜ SetReady (now flags) (now first) (now dependency) (now next) (now order) (now run) (now marks) (now queue) (now set) ⌝ }
+    requires { ⌜ SetReady (now flags) (now first) (now dependency) (now next) (now order) (now run) (now marks) (now queue) (now followed) (now set) ⌝ }
     ensures { λ r. ⌜ SetBuilt recursive (now (flags .entry)) (now (first .entry)) (now (dependency .entry)) (now (next .entry))
         (now (order .entry)) (now (run .entry)) r (now (marks .exit)) (now (set .exit)) ⌝ }
+    ensures { λ _. ⌜ now (followed .exit) ≡ unfollowed ⌝ }
 {
     let count = run.len();
     store_starts(run, order, &mut set[..count]);
     if !recursive {
         return count;
     }
-    capture_all(flags, first, dependency, next, &set[..count], marks, queue);
+    capture_all(
+        flags,
+        first,
+        dependency,
+        next,
+        &set[..count],
+        marks,
+        queue,
+        followed,
+    );
     gather_set(order, marks, set)
 }

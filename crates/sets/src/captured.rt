@@ -7,6 +7,7 @@ ghost use mathlib.Core.List.{foldl};
 ghost use mathlib.Core.Path.{_≡_};
 ghost use Prim.Native.Nat.{_-_};
 ghost use lib.ListN.{length};
+ghost use Rattle.capture.specs.Followed.{unfollowed};
 ghost use Rattle.capture.specs.Walk.{visited};
 ghost use Rattle.sets.specs.Captured.{StartsReady, AllReady, AllCaptured};
 
@@ -34,12 +35,14 @@ pub fn capture_all(
     starts: &[u32],
     marks: &mut [u8],
     queue: &mut [u32],
+    followed: &mut [u8],
 )
-    requires { ⌜ AllReady (now flags) (now first) (now dependency) (now next) (now starts) (now marks) (now queue) ⌝ }
+    requires { ⌜ AllReady (now flags) (now first) (now dependency) (now next) (now starts) (now marks) (now queue) (now followed) ⌝ }
     ensures { λ _. ⌜ AllCaptured (now (flags .entry)) (now (first .entry)) (now (dependency .entry)) (now (next .entry))
         (now (starts .entry)) (now (marks .exit)) ⌝ }
+    ensures { λ _. ⌜ now (followed .exit) ≡ unfollowed ⌝ }
 {
     clear_bytes(marks);
     let tail = mark_starts(flags, starts, marks, queue);
-    walk(flags, first, dependency, next, marks, queue, tail);
+    walk(flags, first, dependency, next, marks, queue, followed, tail);
 }

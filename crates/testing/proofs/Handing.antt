@@ -116,7 +116,7 @@ module _ (s : Shared) (v : Variant) where
           flag-bytes = tables .flag-bytes;
           sizes-of = tables .sizes;
           entry-bits = tables .bits;
-          records = tables .records;
+          records = tables .records (counts-passed (build s v) (shape-left (build s v) shaped .0) .records);
           groups = tables .groups;
         }
 

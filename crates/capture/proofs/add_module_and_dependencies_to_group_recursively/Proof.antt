@@ -67,7 +67,7 @@ capture-from-requires c κs =
     let s = c .before .before .before .before .before .before .before .before .before .before .before .before in
     let p = passed (c .before .before .before .before) in
     let part = length-take-le (s .args .n) (s .args .marks .now) (omega arith) in
-    start-ready (given s) (p .lengths) (p .records) (leb-false (s .args .n) (s .args .from .0) (p .start-module)) _ (s .args .scratch .now) part (omega arith)
+    start-ready (given s) (p .counts) (p .lengths) (p .records) (leb-false (s .args .n) (s .args .from .0) (p .start-module)) _ (s .args .scratch .now) part (omega arith)
 
 clear-words-requires : tie.Need-clear-words-requires
 clear-words-requires c κs = search needs
@@ -84,7 +84,7 @@ returns-4 c =
     let f = c .before .before .before .before .before .before .before .before .capture-from in
     let p = passed (c .before .before .before .before .before .before .before .before .before .before .before .before .before) in
     answers (given s) (areas s) p (le-ltb (length (s .args .marks .now)) (s .args .n) (omega arith)) (le-ltb (length (s .args .scratch .now)) (s .args .n) (omega arith)) _
-    (written (given s) (p .lengths) (areas s) (omega arith) (f .last .1 .1 .1 .1 .1 .1 .0) (f .last .1 .1 .1 .1 .1 .1 .1 .0) (c .before .before .clear-words .last .0) (f .kept .1 .1 .1 .1 .1 .1 .0) (f .ensures) (f .kept .1 .1 .1 .1 .1 .1 .1 .0) (c .before .before .clear-words .ensures))
+    (written (given s) (p .counts) (p .lengths) (areas s) (omega arith) (f .last .1 .1 .1 .1 .1 .1 .0) (f .last .1 .1 .1 .1 .1 .1 .1 .0) (c .before .before .clear-words .last .0) (f .kept .1 .1 .1 .1 .1 .1 .0) (f .ensures) (f .kept .1 .1 .1 .1 .1 .1 .1 .0) (c .before .before .clear-words .ensures))
 
 pub add-module-and-dependencies-to-group-recursively-spec : {M : Type 1} → statement M
 add-module-and-dependencies-to-group-recursively-spec =

@@ -1,11 +1,12 @@
 -- `capture::capture_from` meets its contract: each way through it is one of the three ways of a capture from one module.
 use Prim.Native.Nat.{ℕ, _-_}
 use mathlib.Core.Bool.{false≢true}
-use mathlib.Core.Path.{_≡_, sym, ap, _∙_}
+use mathlib.Core.Path.{_≡_, refl, sym, ap, _∙_}
 use native.Mathlib.Omega.{arith}
 use borrow.Author.Tests.{not-true, not-false}
 use lib.ListN.{length, replicate, length-set}
 use Rattle.capture.specs.Capture.{Given, Eligible}
+use Rattle.capture.specs.Followed.{unfollowed}
 use Rattle.capture.proofs.Start.{capture-none, capture-alone, capture-walk, start-state}
 use borrow.Author.Needs.{needs}
 use Rattle.capture.proofs.capture_from.Statement.{statement}
@@ -77,29 +78,34 @@ returns-2 c =
 slice-write-queue : tie.Need-slice-write-queue
 slice-write-queue c = let p = entry (c .before .before) .pre in omega (arith, p .start-in, p .room)
 
+slice-aggregate-walk : tie.Need-slice-aggregate-walk
+slice-aggregate-walk c = search needs
+
 walk-requires : tie.Need-walk-requires
+unfolding unfollowed
 walk-requires c κs =
-    let e = c .before .before .before .before in
+    let e = c .before .before .before .before .before in
     let s = entry e in
     record {
       tables = s .pre .tables;
       state = start-state (given s) _ (cleared (after-clear e)) (s .pre .start-in) (eligible-start e) (s .args .queue .now) (s .pre .room);
+      clear = refl;
     }
 
 same-length-3 : tie.Need-same-length-3
 same-length-3 c =
-    let e = c .before .before .before .before .before .before .before .before .before in
-    c .before .before .before .before .walk .ensures .same-length ∙ simp length-set (after-clear e .clear-bytes .kept .0)
+    let e = c .before .before .before .before .before .before .before .before .before .before .before in
+    c .before .before .before .before .before .walk .ensures .0 .same-length ∙ simp length-set (after-clear e .clear-bytes .kept .0)
 
 same-length-4 : tie.Need-same-length-4
-same-length-4 c = c .before .before .before .before .walk .kept .1 .1 .1 .1 .1 .0 ∙ simp length-set
+same-length-4 c = c .before .before .before .before .before .walk .kept .1 .1 .1 .1 .1 .0 ∙ simp length-set
 
 returns-3 : tie.Need-returns-3
 returns-3 c =
-    let e = c .before .before .before .before .before .before .before .before .before in
+    let e = c .before .before .before .before .before .before .before .before .before .before .before in
     let s = entry e in
-    let on = not-false (s .args .recursive) (c .before .before .before .before .before .before .before .if2 .left) in
-    capture-walk (given s) _ (cleared (after-clear e)) (s .pre .start-in) _ on (c .before .before .before .before .walk .ensures .marked)
+    let on = not-false (s .args .recursive) (c .before .before .before .before .before .before .before .before .before .if2 .left) in
+    capture-walk (given s) _ (cleared (after-clear e)) (s .pre .start-in) _ on (c .before .before .before .before .before .walk .ensures .0 .marked)
 
 pub capture-from-spec : {M : Type 1} → statement M
 capture-from-spec =
@@ -114,6 +120,7 @@ capture-from-spec =
     same-length-2
     returns-2
     slice-write-queue
+    slice-aggregate-walk
     walk-requires
     same-length-3
     same-length-4

@@ -40,7 +40,7 @@ returns-2 c =
 bad-records-requires : tie.Need-bad-records-requires
 bad-records-requires c κs =
     let s = c .before .before .before .before .before .before .before .before .args in
-    record-tables (s .flags .now) (s .first .now) (s .dependency .now) (s .next .now) (s .n) (s .d) (passed-2 c)
+    record-tables (s .flags .now) (s .first .now) (s .dependency .now) (s .next .now) (s .n) (s .d) (passed-2 c) (passed-1 (c .before .before))
 
 returns-3 : tie.Need-returns-3
 returns-3 c =

@@ -5,23 +5,25 @@ use mathlib.Core.Path.{_≡_, refl, sym, _∙_}
 use native.Mathlib.Omega.{arith}
 use lib.ListN.{length, take, drop, length-append, length-drop}
 use lib.Seq.{length-take-le}
+use Rattle.capture.specs.Followed.{unfollowed}
+use Rattle.capture.proofs.Trail.{unfollowed-bytes}
 use Rattle.names.proofs.SetOfRun.{set-ready}
 use Rattle.names.proofs.NameSteps.{NamesDone, names-start, number-now, place-now, count-in, set-turning, number-next, names-next, names-turned}
 use Rattle.names.proofs.convert_names.Statement.{statement}
 use Rattle.names.proofs.convert_names.Tie as tie
 
 abbrev Inv-loop : tie.InvT-loop
-Inv-loop settings group matched n flags first dependency next order sizes bits bytes offsets rank number at marks₀ set₀ scratch₀
-    chunk-of₀ group-of₀ name-of₀ size-of₀ bits-of₀ made₀ from₀ marks set scratch chunk-of group-of name-of size-of bits-of made from =
+Inv-loop settings group matched n flags first dependency next order sizes bits bytes offsets rank number at marks₀ followed₀ set₀ scratch₀
+    chunk-of₀ group-of₀ name-of₀ size-of₀ bits-of₀ made₀ from₀ marks followed set scratch chunk-of group-of name-of size-of bits-of made from =
     NamesDone (record { bytes = bytes; offsets = offsets; sizes = sizes; rank = rank })
     (record { flags = flags; first = first; dependency = dependency; next = next; order = order }) bits settings group matched (number .0) at
     (record { chunk-of = chunk-of₀; group-of = group-of₀; name-of = name-of₀; size-of = size-of₀; bits-of = bits-of₀ }) from made
     (record { chunk-of = chunk-of; group-of = group-of; name-of = name-of; size-of = size-of; bits-of = bits-of })
-    × (length marks ≡ length marks₀) × (length set ≡ length set₀) × (length scratch ≡ length scratch₀)
+    × (length marks ≡ length marks₀) × (length set ≡ length set₀) × (length scratch ≡ length scratch₀) × (followed ≡ unfollowed)
 
 abbrev μ-loop : tie.MeasureT-loop
-μ-loop settings group matched n flags first dependency next order sizes bits bytes offsets rank number at marks₀ set₀ scratch₀
-    chunk-of₀ group-of₀ name-of₀ size-of₀ bits-of₀ made₀ from₀ marks set scratch chunk-of group-of name-of size-of bits-of made from =
+μ-loop settings group matched n flags first dependency next order sizes bits bytes offsets rank number at marks₀ followed₀ set₀ scratch₀
+    chunk-of₀ group-of₀ name-of₀ size-of₀ bits-of₀ made₀ from₀ marks followed set scratch chunk-of group-of name-of size-of bits-of made from =
     length matched - from
 
 -- ---- what is known in a turn: at its start, with the end of the run, with the set, and with its chunks
@@ -29,19 +31,20 @@ abbrev μ-loop : tie.MeasureT-loop
 abbrev start : tie.At-loop Inv-loop μ-loop → tie.Start Inv-loop μ-loop
 start l =
     l .before .before .before .before .before .before .before .before .before .before .before .before .before .before .before .before .before
-    .before .before .before
+    .before .before .before .before
 
 abbrev head : tie.After-run-end Inv-loop μ-loop → tie.At-loop Inv-loop μ-loop
 head k = k .before .before
 
 abbrev run : tie.After-build-set Inv-loop μ-loop → tie.After-run-end Inv-loop μ-loop
-run k = k .before .before .before .before .before
+run k = k .before .before .before .before .before .before
 
 abbrev set : tie.After-convert-set Inv-loop μ-loop → tie.After-build-set Inv-loop μ-loop
-set k = k .before .before .before .before .before .before .before .before .before .before .before .before .before .before .before .before
+set k =
+    k .before .before .before .before .before .before .before .before .before .before .before .before .before .before .before .before .before .before
 
 abbrev area : tie.After-build-set Inv-loop μ-loop → List ℕ
-area k = k .build-set .last .1 .1 .1 .1 .1 .1 .1 .1 .1 .0
+area k = k .build-set .last .1 .1 .1 .1 .1 .1 .1 .1 .1 .1 .0
 
 abbrev list : tie.After-build-set Inv-loop μ-loop → List ℕ
 list k = k .build-set .last .1 .1 .1 .1 .1 .1 .1 .1 .0
@@ -53,12 +56,12 @@ count-small : (k : tie.After-build-set Inv-loop μ-loop) → k .build-set .resul
 count-small k =
     let l = head (run k) in
     let s = start l in
-    omega (arith, count-in (s .pre .0) (l .loop .inv .0) (run k .run-end .ensures) (k .build-set .ensures), s .pre .1 .modules)
+    omega (arith, count-in (s .pre .0) (l .loop .inv .0) (run k .run-end .ensures) (k .build-set .ensures .0), s .pre .1 .modules)
 
 count-fits : (k : tie.After-build-set Inv-loop μ-loop) → k .build-set .result ≤ length (area k)
 count-fits k =
     let l = head (run k) in
-    omega (arith, count-small k, start l .pre .1 .set-room, l .loop .inv .2, k .build-set .kept .1 .1 .1 .1 .1 .1 .1 .1 .1 .0)
+    omega (arith, count-small k, start l .pre .1 .set-room, l .loop .inv .2, k .build-set .kept .1 .1 .1 .1 .1 .1 .1 .1 .1 .1 .0)
 
 -- the list of a walk came back to the first part of scratch
 back-length : (front l : List ℕ) (n : ℕ) → n ≤ length l → length front ≡ length (take n l) → length (front ++ drop n l) ≡ length l
@@ -73,7 +76,10 @@ scratch-back k =
 -- ---- the needs
 
 loop-holds : tie.Need-loop-holds Inv-loop μ-loop
-loop-holds c = (names-start, refl, refl, refl)
+loop-holds c =
+    let s = c .before .before .before .before .before .before .before .before .before .before .before .before .before .before .before .before .before
+    .before .before .before in
+    (names-start, refl, refl, refl, s .pre .1 .clear)
 
 run-end-requires : tie.Need-run-end-requires Inv-loop μ-loop
 run-end-requires c κs = c .loop-test .taken
@@ -98,7 +104,7 @@ slice-aggregate-build-set c = sym (length-take-le _ _ (list-fits (head (c .befor
 
 build-set-requires : tie.Need-build-set-requires Inv-loop μ-loop
 build-set-requires c κs =
-    let k = c .before .before .before .before in
+    let k = c .before .before .before .before .before in
     let l = head k in
     let s = start l in
     let room = s .pre .1 in
@@ -106,45 +112,46 @@ build-set-requires c κs =
     let v = l .loop .inv in
     let first : length (take (s .args .n) (l .loop .scratch)) ≡ s .args .n = length-take-le (s .args .n) (l .loop .scratch) (list-fits l) in
     set-ready (s .pre .0 .turning .fits .passed) (s .pre .0 .fits) (e .some) (e .within) (v .1 ∙ room .mark-bytes ∙ sym (room .modules))
-    (omega (arith, room .modules, first)) (omega (arith, room .modules, room .set-room, v .2))
+    (omega (arith, room .modules, first)) (v .4) (omega (arith, room .modules, room .set-room, v .2))
 
 mul-convert-set : tie.Need-mul-convert-set Inv-loop μ-loop
 mul-convert-set c =
-    let k = c .before .before .before .before .before .before .before .before .before .before .before in
+    let k = c .before .before .before .before .before .before .before .before .before .before .before .before .before .before in
     omega (arith, k .before .loop-test .taken, start (head k) .good .1 .1 .0)
 
 shared-slice-read-convert-set : tie.Need-shared-slice-read-convert-set Inv-loop μ-loop
-shared-slice-read-convert-set c = c .before .before .before .before .before .before .before .before .before .before .before .before .before .loop-test .taken
+shared-slice-read-convert-set c =
+    c .before .before .before .before .before .before .before .before .before .before .before .before .before .before .before .before .loop-test .taken
 
 slice-reshare-prefix-convert-set : tie.Need-slice-reshare-prefix-convert-set Inv-loop μ-loop
-slice-reshare-prefix-convert-set c = count-fits (c .before .before .before .before .before .before .before)
+slice-reshare-prefix-convert-set c = count-fits (c .before .before .before .before .before .before .before .before .before)
 
 slice-aggregate-convert-set : tie.Need-slice-aggregate-convert-set Inv-loop μ-loop
-slice-aggregate-convert-set c = sym (length-take-le _ _ (count-fits (c .before .before .before .before .before .before .before .before)))
+slice-aggregate-convert-set c = sym (length-take-le _ _ (count-fits (c .before .before .before .before .before .before .before .before .before .before)))
 
-cast-t46 : tie.Need-cast-t46 Inv-loop μ-loop
-cast-t46 c =
-    let l = head (run (c .before .before .before .before .before .before .before .before)) in
+cast-t49 : tie.Need-cast-t49 Inv-loop μ-loop
+cast-t49 c =
+    let l = head (run (c .before .before .before .before .before .before .before .before .before .before)) in
     omega (arith, number-now (start l .pre .0) (l .loop .inv .0))
 
-add-t47 : tie.Need-add-t47 Inv-loop μ-loop
-add-t47 c =
-    let l = head (run (c .before .before .before .before .before .before .before .before .before)) in
+add-t50 : tie.Need-add-t50 Inv-loop μ-loop
+add-t50 c =
+    let l = head (run (c .before .before .before .before .before .before .before .before .before .before .before)) in
     omega (arith, number-now (start l .pre .0) (l .loop .inv .0))
 
 add-convert-set : tie.Need-add-convert-set Inv-loop μ-loop
 add-convert-set c =
-    let l = head (run (c .before .before .before .before .before .before .before .before .before)) in
-    omega (arith, place-now (start l .pre .0) (l .loop .inv .0), start l .good .1 .1 .1 .1 .1 .1 .1 .1 .1 .1 .1 .1 .1 .1 .1 .1 .1 .1 .1 .1 .0)
+    let l = head (run (c .before .before .before .before .before .before .before .before .before .before .before)) in
+    omega (arith, place-now (start l .pre .0) (l .loop .inv .0), start l .good .1 .1 .1 .1 .1 .1 .1 .1 .1 .1 .1 .1 .1 .1 .1 .1 .1 .1 .1 .1 .1 .0)
 
 convert-set-requires : tie.Need-convert-set-requires Inv-loop μ-loop
 convert-set-requires c κs =
-    let k = c .before .before .before .before .before .before .before .before .before .before .before .before .before .before .before in
+    let k = c .before .before .before .before .before .before .before .before .before .before .before .before .before .before .before .before .before in
     let l = head (run k) in
     let s = start l in
     let room = s .pre .1 in
     let count = length-take-le (k .build-set .result) (area k) (count-fits k) in (
-      set-turning (s .pre .0) (l .loop .inv .0) (run k .run-end .ensures) (k .build-set .ensures),
+      set-turning (s .pre .0) (l .loop .inv .0) (run k .run-end .ensures) (k .build-set .ensures .0),
       (omega (arith, count-small k, count), room .few, omega (arith, room .scratch-room, scratch-back k)),
     )
 
@@ -154,7 +161,7 @@ add-made c =
     let l = head (run (set k)) in
     omega (
       arith,
-      number-next (start l .pre .0) (l .loop .inv .0) (run (set k) .run-end .ensures) (set k .build-set .ensures) (k .convert-set .ensures .0),
+      number-next (start l .pre .0) (l .loop .inv .0) (run (set k) .run-end .ensures) (set k .build-set .ensures .0) (k .convert-set .ensures .0),
     )
 
 loop-less : tie.Need-loop-less Inv-loop μ-loop
@@ -169,39 +176,43 @@ loop-again c =
     let v = l .loop .inv in
     let b = set k .build-set in
     let same = k .convert-set .kept .1 .1 .1 .1 .1 .1 .1 .1 .1 .1 .1 .1 .1 in (
-      names-next (start l .pre .0) (v .0) (run (set k) .run-end .ensures) (b .ensures) (k .convert-set .ensures .0)
+      names-next (start l .pre .0) (v .0) (run (set k) .run-end .ensures) (b .ensures .0) (k .convert-set .ensures .0)
           (record { chunk-of = same .0; group-of = same .1 .0; name-of = same .1 .1 .0; size-of = same .1 .1 .1 .0; bits-of = same .1 .1 .1 .1 .0 }),
       b .kept .1 .1 .1 .1 .1 .1 .1 .0 ∙ v .1,
-      b .kept .1 .1 .1 .1 .1 .1 .1 .1 .1 .0 ∙ v .2,
+      b .kept .1 .1 .1 .1 .1 .1 .1 .1 .1 .1 .0 ∙ v .2,
       k .convert-set .ensures .1 ∙ scratch-back (set k),
+      b .ensures .1,
     )
 
 same-length : tie.Need-same-length Inv-loop μ-loop
 same-length c = c .before .loop .inv .1
 
 same-length-2 : tie.Need-same-length-2 Inv-loop μ-loop
-same-length-2 c = c .before .loop .inv .2
+same-length-2 c = let l = c .before in unfollowed-bytes (l .loop .inv .4) ∙ sym (unfollowed-bytes (start l .pre .1 .clear))
 
 same-length-3 : tie.Need-same-length-3 Inv-loop μ-loop
-same-length-3 c = c .before .loop .inv .3
+same-length-3 c = c .before .loop .inv .2
 
 same-length-4 : tie.Need-same-length-4 Inv-loop μ-loop
-same-length-4 c = c .before .loop .inv .0 .lengths .chunk-of
+same-length-4 c = c .before .loop .inv .3
 
 same-length-5 : tie.Need-same-length-5 Inv-loop μ-loop
-same-length-5 c = c .before .loop .inv .0 .lengths .group-of
+same-length-5 c = c .before .loop .inv .0 .lengths .chunk-of
 
 same-length-6 : tie.Need-same-length-6 Inv-loop μ-loop
-same-length-6 c = c .before .loop .inv .0 .lengths .name-of
+same-length-6 c = c .before .loop .inv .0 .lengths .group-of
 
 same-length-7 : tie.Need-same-length-7 Inv-loop μ-loop
-same-length-7 c = c .before .loop .inv .0 .lengths .size-of
+same-length-7 c = c .before .loop .inv .0 .lengths .name-of
 
 same-length-8 : tie.Need-same-length-8 Inv-loop μ-loop
-same-length-8 c = c .before .loop .inv .0 .lengths .bits-of
+same-length-8 c = c .before .loop .inv .0 .lengths .size-of
+
+same-length-9 : tie.Need-same-length-9 Inv-loop μ-loop
+same-length-9 c = c .before .loop .inv .0 .lengths .bits-of
 
 returns : tie.Need-returns Inv-loop μ-loop
-returns c = let v = c .before .loop .inv in (names-turned (v .0) (c .loop-test .left), (v .1, v .2, v .3))
+returns c = let v = c .before .loop .inv in (names-turned (v .0) (c .loop-test .left), (v .1, v .2, v .3, v .4))
 
 pub convert-names-spec : {M : Type 1} → statement M
 convert-names-spec =
@@ -222,8 +233,8 @@ convert-names-spec =
     shared-slice-read-convert-set
     slice-reshare-prefix-convert-set
     slice-aggregate-convert-set
-    cast-t46
-    add-t47
+    cast-t49
+    add-t50
     add-convert-set
     convert-set-requires
     add-made
@@ -237,4 +248,5 @@ convert-names-spec =
     same-length-6
     same-length-7
     same-length-8
+    same-length-9
     returns)

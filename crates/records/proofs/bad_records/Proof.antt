@@ -31,7 +31,13 @@ bad-chain-requires c κs =
     let s = c .before .before .before .before .before .before .before in
     let e = sym (c .before .before .before .bad-first .ensures) ∙ c .before .before .if1 .left in
     let f = sym (c .before .bad-record .ensures) ∙ c .if2 .left in
-    record { firsts = omega (arith, s .pre .firsts); nexts = s .pre .nexts; first-in = first-in (s .args .first .now) (s .args .n) (s .args .d) e; next-in = next-in (s .args .dependency .now) (s .args .next .now) (s .args .n) (s .args .d) f }
+    record {
+      few = s .pre .few;
+      firsts = omega (arith, s .pre .firsts);
+      nexts = s .pre .nexts;
+      first-in = first-in (s .args .first .now) (s .args .n) (s .args .d) e;
+      next-in = next-in (s .args .dependency .now) (s .args .next .now) (s .args .n) (s .args .d) f;
+    }
 
 returns-3 : tie.Need-returns-3
 unfolding badRecords

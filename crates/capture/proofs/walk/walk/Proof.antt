@@ -1,61 +1,132 @@
--- `capture::walk::walk` meets its contract. The loop's invariant is that of a walk with `head` modules taken off its list; the measure is how
--- many of the n modules can still be taken off.
-use Prim.Native.Nat.{_-_}
+-- `capture::walk::walk` meets its contract. The loop's invariant is that of a walk with `head` modules taken off its list, whose chains are followed;
+-- the measure is how many of the n modules can still be taken off.
+use Prim.Native.Nat.{_-_, _≤_}
 use mathlib.Core.Path.{sym, _∙_}
 use native.Mathlib.Omega.{arith}
 use lib.ListN.{length}
-use Rattle.records.proofs.Table.{good}
+use lib.Seq.{length-take-le}
+use Rattle.records.proofs.Table.{Good, good}
 use Rattle.capture.proofs.Walking.{Walking, walk-begins, walk-turns, walk-ends, taken-in, list-within}
+use Rattle.capture.proofs.Trail.{Trail, trail-begins, trail-turns, trail-ends, unfollowed-bytes}
 use Rattle.capture.proofs.walk.walk.Statement.{statement}
 use Rattle.capture.proofs.walk.walk.Tie as tie
 
 abbrev Inv-loop : tie.InvT-loop
-Inv-loop flags first dependency next marks₀ queue₀ tail found₀ head₀ marks queue found head =
-    Walking flags first dependency next (length flags) (length next - 1) (record { marks = marks₀; queue = queue₀; tail = found₀ }) head (record { marks = marks; queue = queue; tail = found })
+Inv-loop flags first dependency next marks₀ queue₀ followed₀ tail found₀ head₀ marks queue followed found head =
+    Walking flags first dependency next (length flags) (length next - 1) (record { marks = marks₀; queue = queue₀; tail = found₀ }) head
+    (record { marks = marks; queue = queue; tail = found })
+    × Trail flags first dependency next (length flags) (length next - 1) head (record { marks = marks; queue = queue; tail = found }) followed
 
 abbrev μ-loop : tie.MeasureT-loop
-μ-loop flags first dependency next marks₀ queue₀ tail found₀ head₀ marks queue found head = length flags - head
+μ-loop flags first dependency next marks₀ queue₀ followed₀ tail found₀ head₀ marks queue followed found head = length flags - head
+
+abbrev start : tie.At-loop Inv-loop μ-loop → tie.Start Inv-loop μ-loop
+start l = l .before .before .before .before .before .before .before .before
+
+-- the records are those that refusal 7 does not turn away
+tables-good : (s : tie.Start Inv-loop μ-loop) →
+    Good (s .args .first .now) (s .args .dependency .now) (s .args .next .now) (length (s .args .flags .now)) (length (s .args .next .now) - 1)
+tables-good s = good _ _ _ _ _ (s .pre .tables .good)
+
+-- the list has room, and holds no more modules than there are
+listed : (l : tie.At-loop Inv-loop μ-loop) → (l .loop .found ≤ length (l .loop .queue)) × (l .loop .found ≤ length (start l .args .flags .now))
+listed l =
+    let s = l .loop .inv .0 .state in
+    let few = list-within (start l .args .flags .now) _ _ s in
+    (omega (arith, s .room, few), few)
+
+slice-write-followed : tie.Need-slice-write-followed Inv-loop μ-loop
+slice-write-followed c = omega (arith, unfollowed-bytes (c .before .before .before .before .before .before .before .pre .clear))
 
 loop-holds : tie.Need-loop-holds Inv-loop μ-loop
 loop-holds c =
-    let s = c .before .before .before .before .before .before in
-    walk-begins (s .args .flags .now) (s .args .first .now) (s .args .dependency .now) (s .args .next .now) _ _ _ (s .pre .state)
+    let s = c .before .before .before .before .before .before .before in
+    let a = s .args in (
+      walk-begins (a .flags .now) (a .first .now) (a .dependency .now) (a .next .now) _ _ _ (s .pre .state),
+      trail-begins (a .flags .now) (a .first .now) (a .dependency .now) (a .next .now) _ _ (s .pre .tables .records .few) _ _ (s .pre .clear),
+    )
 
-mul-t12 : tie.Need-mul-t12 Inv-loop μ-loop
-mul-t12 c = omega (arith, c .before .loop .inv .state .room, list-within _ _ _ (c .before .loop .inv .state))
+mul-t14 : tie.Need-mul-t14 Inv-loop μ-loop
+mul-t14 c = let l = c .before in omega (arith, listed l .0, start l .good)
 
-slice-read-t14 : tie.Need-slice-read-t14 Inv-loop μ-loop
-slice-read-t14 c = omega (arith, c .before .before .loop .inv .state .room, list-within _ _ _ (c .before .before .loop .inv .state))
+slice-read-t16 : tie.Need-slice-read-t16 Inv-loop μ-loop
+slice-read-t16 c = omega (arith, listed (c .before .before) .0)
 
 follow-requires : tie.Need-follow-requires Inv-loop μ-loop
 follow-requires c κs =
-    let s = c .before .before .before .before .before .before .before .before .before .before .before in
-    let l = c .before .before .before .before .loop in
-    record { tables = s .pre .tables; state = l .inv .state; module-in = taken-in (s .args .flags .now) (s .args .first .now) (s .args .dependency .now) (s .args .next .now) _ _ (good _ _ _ _ _ (s .pre .tables .good)) _ (l .head) _ (l .inv) (c .before .before .before .loop-test .taken) }
+    let l = c .before .before .before .before .before in
+    let s = start l in
+    let a = s .args in
+    let p = l .loop .inv in
+    let h = c .before .before .before .before .loop-test .taken in
+    record {
+      tables = s .pre .tables;
+      state = p .0 .state;
+      module-in = taken-in (a .flags .now) (a .first .now) (a .dependency .now) (a .next .now) _ _ (tables-good s) _ _ _ (p .0) h;
+      before = p .1 .marks;
+    }
 
 add-head : tie.Need-add-head Inv-loop μ-loop
-add-head c = omega (arith, c .before .before .before .before .before .before .before .before .before .loop .inv .state .room, list-within _ _ _ (c .before .before .before .before .before .before .before .before .before .loop .inv .state))
+add-head c =
+    let l = c .before .before .before .before .before .before .before .before .before .before .before .before in
+    omega (arith, listed l .0, c .before .before .before .before .before .before .before .before .before .before .before .loop-test .taken, start l .good)
 
 loop-less : tie.Need-loop-less Inv-loop μ-loop
-loop-less c = omega (arith, list-within _ _ _ (c .before .before .before .before .before .before .before .before .before .loop .inv .state))
+loop-less c =
+    let l = c .before .before .before .before .before .before .before .before .before .before .before .before in
+    omega (arith, listed l .1, c .before .before .before .before .before .before .before .before .before .before .before .loop-test .taken)
 
 loop-again : tie.Need-loop-again Inv-loop μ-loop
 loop-again c =
-    let s = c .before .before .before .before .before .before .before .before .before .before .before .before .before .before .before .before in
-    let l = c .before .before .before .before .before .before .before .before .before .loop in
-    walk-turns (s .args .flags .now) (s .args .first .now) (s .args .dependency .now) (s .args .next .now) _ _ (good _ _ _ _ _ (s .pre .tables .good)) _ (l .head) _ (l .inv) (c .before .before .before .before .before .before .before .before .loop-test .taken) (c .before .before .before .before .follow .ensures)
+    let l = c .before .before .before .before .before .before .before .before .before .before .before .before in
+    let s = start l in
+    let a = s .args in
+    let p = l .loop .inv in
+    let h = c .before .before .before .before .before .before .before .before .before .before .before .loop-test .taken in
+    let e = c .before .before .before .before .before .before .follow .ensures in (
+      walk-turns (a .flags .now) (a .first .now) (a .dependency .now) (a .next .now) _ _ (tables-good s) _ _ _ (p .0) h (e .0),
+      trail-turns (a .flags .now) (a .first .now) (a .dependency .now) (a .next .now) _ _ (tables-good s) _ _ _ (p .0) h _ (p .1) (e .0) (e .1),
+    )
+
+slice-reshare-prefix-forget-all : tie.Need-slice-reshare-prefix-forget-all Inv-loop μ-loop
+slice-reshare-prefix-forget-all c = listed (c .before) .0
+
+slice-aggregate-forget-all : tie.Need-slice-aggregate-forget-all Inv-loop μ-loop
+slice-aggregate-forget-all c = sym (length-take-le _ _ (listed (c .before .before) .0))
+
+forget-all-requires : tie.Need-forget-all-requires Inv-loop μ-loop
+forget-all-requires c κs =
+    let l = c .before .before .before in
+    let s = start l in
+    let a = s .args in
+    let p = l .loop .inv in
+    let h = c .before .before .loop-test .left in
+    trail-ends (a .flags .now) (a .first .now) (a .dependency .now) (a .next .now) _ _ (s .pre .tables .records) (tables-good s) _ _ _ (p .0) h _ (p .1)
 
 same-length : tie.Need-same-length Inv-loop μ-loop
-same-length c = c .before .loop .inv .state .mark-bytes ∙ sym (c .before .before .before .before .before .before .before .before .pre .state .mark-bytes)
+same-length c = let l = c .before .before .before .before .before .before in l .loop .inv .0 .state .mark-bytes ∙ sym (start l .pre .state .mark-bytes)
 
 same-length-2 : tie.Need-same-length-2 Inv-loop μ-loop
-same-length-2 c = c .before .loop .inv .queue-length
+same-length-2 c = c .before .before .before .before .before .before .loop .inv .0 .queue-length
+
+same-length-3 : tie.Need-same-length-3 Inv-loop μ-loop
+same-length-3 c =
+    let s = start (c .before .before .before .before .before .before) in
+    unfollowed-bytes (c .before .before .forget-all .ensures) ∙ sym (unfollowed-bytes (s .pre .clear))
 
 returns : tie.Need-returns Inv-loop μ-loop
 returns c =
-    let s = c .before .before .before .before .before .before .before .before in
-    let l = c .before .loop in
-    record { marked = walk-ends (s .args .flags .now) (s .args .first .now) (s .args .dependency .now) (s .args .next .now) _ _ _ (l .head) _ (l .inv) (c .loop-test .left); same-length = l .inv .state .mark-bytes ∙ sym (s .pre .state .mark-bytes) }
+    let l = c .before .before .before .before .before .before in
+    let s = start l in
+    let a = s .args in
+    let p = l .loop .inv .0 in
+    let h = c .before .before .before .before .before .loop-test .left in (
+      record {
+        marked = walk-ends (a .flags .now) (a .first .now) (a .dependency .now) (a .next .now) _ _ _ _ _ p h;
+        same-length = p .state .mark-bytes ∙ sym (s .pre .state .mark-bytes);
+      },
+      c .before .before .forget-all .ensures,
+    )
 
 pub walk-spec : {M : Type 1} → statement M
 walk-spec =
@@ -63,13 +134,18 @@ walk-spec =
     (tie.spec
     Inv-loop
     μ-loop
+    slice-write-followed
     loop-holds
-    mul-t12
-    slice-read-t14
+    mul-t14
+    slice-read-t16
     follow-requires
     add-head
     loop-less
     loop-again
+    slice-reshare-prefix-forget-all
+    slice-aggregate-forget-all
+    forget-all-requires
     same-length
     same-length-2
+    same-length-3
     returns)

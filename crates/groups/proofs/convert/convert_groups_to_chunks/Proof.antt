@@ -4,6 +4,8 @@ use mathlib.Core.Path.{_≡_, refl, sym, _∙_}
 use native.Mathlib.Omega.{arith}
 use lib.ListN.{length, length-replicate}
 use lib.Seq.{length-take-le, length-front}
+use Rattle.capture.specs.Followed.{unfollowed}
+use Rattle.capture.proofs.Trail.{unfollowed-bytes}
 use Rattle.emitting.proofs.Chunk.{SameLengths, same-lengths}
 use Rattle.groups.proofs.Turning.{TurnsTo, none-turned, next-turning, one-turned, all-turned, number-small, record-in}
 use Rattle.groups.proofs.Turning.{given-few, given-flags, group-small, row-small, row-within}
@@ -12,7 +14,7 @@ use Rattle.groups.proofs.convert.convert_groups_to_chunks.Tie as tie
 
 abbrev Inv-loop : tie.InvT-loop
 Inv-loop turns answers n flags sizes shares tags bits bytes offsets first dependency next order rank number at scratch₀ chunk-of₀ group-of₀ name-of₀
-    size-of₀ bits-of₀ settings marks₀ set₀ made₀ i₀ scratch chunk-of group-of name-of size-of bits-of marks set made i =
+    size-of₀ bits-of₀ settings marks₀ followed₀ set₀ made₀ i₀ scratch chunk-of group-of name-of size-of bits-of marks followed set made i =
     TurnsTo (record { bytes = bytes; offsets = offsets; sizes = sizes; rank = rank })
     (record { flags = flags; first = first; dependency = dependency; next = next; order = order }) bits settings turns
     (record { answers = answers; tags = tags; shares = shares }) n (number .0) at i made
@@ -23,10 +25,11 @@ Inv-loop turns answers n flags sizes shares tags bits bytes offsets first depend
     × (length scratch ≡ length scratch₀)
     × (length marks ≡ 4096)
     × (length set ≡ 4096)
+    × (followed ≡ unfollowed)
 
 abbrev μ-loop : tie.MeasureT-loop
 μ-loop turns answers n flags sizes shares tags bits bytes offsets first dependency next order rank number at scratch₀ chunk-of₀ group-of₀ name-of₀
-    size-of₀ bits-of₀ settings marks₀ set₀ made₀ i₀ scratch chunk-of group-of name-of size-of bits-of marks set made i =
+    size-of₀ bits-of₀ settings marks₀ followed₀ set₀ made₀ i₀ scratch chunk-of group-of name-of size-of bits-of marks followed set made i =
     length turns - i
 
 -- ---- what is known in a turn, and after its call
@@ -37,10 +40,11 @@ start k =
     entered .before .before .before .before .before .before .before .before .before .before .before
 
 abbrev turn : tie.After-convert-group Inv-loop μ-loop → tie.In-loop Inv-loop μ-loop
-turn m = m .before .before .before .before .before .before .before .before .before .before .before .before .before .before
+turn m = m .before .before .before .before .before .before .before .before .before .before .before .before .before .before .before
 
 loop-holds : tie.Need-loop-holds Inv-loop μ-loop
-loop-holds c = (none-turned, same-lengths _, refl, length-replicate {A = ℕ} 4096 0, length-replicate {A = ℕ} 4096 0)
+unfolding unfollowed
+loop-holds c = (none-turned, same-lengths _, refl, length-replicate {A = ℕ} 4096 0, length-replicate {A = ℕ} 4096 0, refl)
 
 mul-g : tie.Need-mul-g Inv-loop μ-loop
 mul-g c = omega arith
@@ -81,11 +85,11 @@ part-convert-group-start c = let k = c .before .before .before in omega (arith, 
 part-convert-group-end : tie.Need-part-convert-group-end Inv-loop μ-loop
 part-convert-group-end c = let k = c .before .before .before in row-within (start k .pre .0) (k .before .loop .i) (k .loop-test .taken)
 
-cast-t48 : tie.Need-cast-t48 Inv-loop μ-loop
-cast-t48 c = let k = c .before .before .before .before in omega (arith, number-small (k .before .loop .inv .0) (start k .pre .0))
+cast-t49 : tie.Need-cast-t49 Inv-loop μ-loop
+cast-t49 c = let k = c .before .before .before .before in omega (arith, number-small (k .before .loop .inv .0) (start k .pre .0))
 
-add-t49 : tie.Need-add-t49 Inv-loop μ-loop
-add-t49 c = let k = c .before .before .before .before .before in omega (arith, number-small (k .before .loop .inv .0) (start k .pre .0))
+add-t50 : tie.Need-add-t50 Inv-loop μ-loop
+add-t50 c = let k = c .before .before .before .before .before in omega (arith, number-small (k .before .loop .inv .0) (start k .pre .0))
 
 add-convert-group : tie.Need-add-convert-group Inv-loop μ-loop
 add-convert-group c =
@@ -103,11 +107,14 @@ slice-aggregate-convert-group c =
     sym (length-take-le _ (l .marks) (omega (arith, given-few (start k .pre .0), l .inv .3)))
 
 slice-aggregate-convert-group-2 : tie.Need-slice-aggregate-convert-group-2 Inv-loop μ-loop
-slice-aggregate-convert-group-2 c = sym (c .before .before .before .before .before .before .before .before .loop .inv .4)
+slice-aggregate-convert-group-2 c = sym (unfollowed-bytes (c .before .before .before .before .before .before .before .before .loop .inv .5))
+
+slice-aggregate-convert-group-3 : tie.Need-slice-aggregate-convert-group-3 Inv-loop μ-loop
+slice-aggregate-convert-group-3 c = sym (c .before .before .before .before .before .before .before .before .before .loop .inv .4)
 
 convert-group-requires : tie.Need-convert-group-requires Inv-loop μ-loop
 convert-group-requires c κs =
-    let k = c .before .before .before .before .before .before .before .before .before .before .before .before .before in
+    let k = c .before .before .before .before .before .before .before .before .before .before .before .before .before .before in
     let s = start k in
     let p = s .pre .0 in
     let l = k .before .loop in (
@@ -118,21 +125,22 @@ convert-group-requires c κs =
         mark-bytes = length-take-le _ (l .marks) (omega (arith, given-few p, l .inv .3));
         set-room = omega (arith, given-few p, l .inv .4);
         scratch-room = omega (arith, s .pre .1, l .inv .2);
+        clear = l .inv .5;
       },
     )
 
 add-made : tie.Need-add-made Inv-loop μ-loop
 add-made c =
-    let m = c .before .before .before .before .before .before .before .before .before .before .before .before .before .before in
+    let m = c .before .before .before .before .before .before .before .before .before .before .before .before .before .before .before in
     let k = turn m in
     let l = k .before .loop in
     let next = one-turned (l .inv .0) _ (k .loop-test .taken) (m .convert-group .ensures .0) in
-    let kept = m .convert-group .kept .1 .1 .1 .1 .1 .1 .1 .1 .1 .1 .1 .1 .1 .1 .1 .1 .1 .1 .1 .1 .1 .1 .0 in
+    let kept = m .convert-group .kept .1 .1 .1 .1 .1 .1 .1 .1 .1 .1 .1 .1 .1 .1 .1 .1 .1 .1 .1 .1 .1 .1 .1 .0 in
     omega (arith, record-in next (start k .pre .0), l .inv .1 .group-of, kept, start k .good .1 .1 .1 .1 .1 .1 .1 .1 .1 .1 .1 .1 .1 .1 .1 .1 .1 .1 .1 .1 .0)
 
 add-i : tie.Need-add-i Inv-loop μ-loop
 add-i c =
-    let k = turn (c .before .before .before .before .before .before .before .before .before .before .before .before .before .before) in
+    let k = turn (c .before .before .before .before .before .before .before .before .before .before .before .before .before .before .before) in
     omega (arith, k .loop-test .taken, start k .good .1 .0)
 
 loop-less : tie.Need-loop-less Inv-loop μ-loop
@@ -140,7 +148,7 @@ loop-less c = omega arith
 
 loop-again : tie.Need-loop-again Inv-loop μ-loop
 loop-again c =
-    let m = c .before .before .before .before .before .before .before .before .before .before .before .before .before .before in
+    let m = c .before .before .before .before .before .before .before .before .before .before .before .before .before .before .before in
     let k = turn m in
     let l = k .before .loop in
     let r = m .convert-group in
@@ -148,15 +156,16 @@ loop-again c =
     let marks = r .last .1 .1 .1 .1 .1 .1 .1 .1 .1 .1 .1 .1 .1 .1 .1 .1 .1 .1 .0 in (
       one-turned (l .inv .0) _ (k .loop-test .taken) (r .ensures .0),
       record {
-        chunk-of = r .kept .1 .1 .1 .1 .1 .1 .1 .1 .1 .1 .1 .1 .1 .1 .1 .1 .1 .1 .1 .1 .1 .0 ∙ same .chunk-of;
-        group-of = r .kept .1 .1 .1 .1 .1 .1 .1 .1 .1 .1 .1 .1 .1 .1 .1 .1 .1 .1 .1 .1 .1 .1 .0 ∙ same .group-of;
-        name-of = r .kept .1 .1 .1 .1 .1 .1 .1 .1 .1 .1 .1 .1 .1 .1 .1 .1 .1 .1 .1 .1 .1 .1 .1 .0 ∙ same .name-of;
-        size-of = r .kept .1 .1 .1 .1 .1 .1 .1 .1 .1 .1 .1 .1 .1 .1 .1 .1 .1 .1 .1 .1 .1 .1 .1 .1 .0 ∙ same .size-of;
-        bits-of = r .kept .1 .1 .1 .1 .1 .1 .1 .1 .1 .1 .1 .1 .1 .1 .1 .1 .1 .1 .1 .1 .1 .1 .1 .1 .1 .0 ∙ same .bits-of;
+        chunk-of = r .kept .1 .1 .1 .1 .1 .1 .1 .1 .1 .1 .1 .1 .1 .1 .1 .1 .1 .1 .1 .1 .1 .1 .0 ∙ same .chunk-of;
+        group-of = r .kept .1 .1 .1 .1 .1 .1 .1 .1 .1 .1 .1 .1 .1 .1 .1 .1 .1 .1 .1 .1 .1 .1 .1 .0 ∙ same .group-of;
+        name-of = r .kept .1 .1 .1 .1 .1 .1 .1 .1 .1 .1 .1 .1 .1 .1 .1 .1 .1 .1 .1 .1 .1 .1 .1 .1 .0 ∙ same .name-of;
+        size-of = r .kept .1 .1 .1 .1 .1 .1 .1 .1 .1 .1 .1 .1 .1 .1 .1 .1 .1 .1 .1 .1 .1 .1 .1 .1 .1 .0 ∙ same .size-of;
+        bits-of = r .kept .1 .1 .1 .1 .1 .1 .1 .1 .1 .1 .1 .1 .1 .1 .1 .1 .1 .1 .1 .1 .1 .1 .1 .1 .1 .1 .0 ∙ same .bits-of;
       },
-      r .kept .1 .1 .1 .1 .1 .1 .1 .1 .1 .1 .1 .1 .1 .1 .1 .1 .1 .1 .1 .1 .0 ∙ l .inv .2,
+      r .kept .1 .1 .1 .1 .1 .1 .1 .1 .1 .1 .1 .1 .1 .1 .1 .1 .1 .1 .1 .1 .1 .0 ∙ l .inv .2,
       length-front (l .marks) marks (start k .args .n) (r .kept .1 .1 .1 .1 .1 .1 .1 .1 .1 .1 .1 .1 .1 .1 .1 .1 .1 .1 .0) ∙ l .inv .3,
-      r .kept .1 .1 .1 .1 .1 .1 .1 .1 .1 .1 .1 .1 .1 .1 .1 .1 .1 .1 .1 .0 ∙ l .inv .4,
+      r .kept .1 .1 .1 .1 .1 .1 .1 .1 .1 .1 .1 .1 .1 .1 .1 .1 .1 .1 .1 .1 .0 ∙ l .inv .4,
+      r .ensures .1 .3,
     )
 
 same-length : tie.Need-same-length Inv-loop μ-loop
@@ -200,12 +209,13 @@ convert-groups-to-chunks-spec =
     sub-convert-group
     part-convert-group-start
     part-convert-group-end
-    cast-t48
-    add-t49
+    cast-t49
+    add-t50
     add-convert-group
     array-borrow-prefix-marks
     slice-aggregate-convert-group
     slice-aggregate-convert-group-2
+    slice-aggregate-convert-group-3
     convert-group-requires
     add-made
     add-i

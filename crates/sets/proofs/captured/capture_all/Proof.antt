@@ -8,7 +8,7 @@ use Rattle.sets.proofs.captured.capture_all.Statement.{statement}
 use Rattle.sets.proofs.captured.capture_all.Tie as tie
 
 abbrev entry : tie.After-clear-bytes → tie.Start
-entry k = k .before .before .before .before .before .before .before .before .before
+entry k = k .before .before .before .before .before .before .before .before .before .before
 
 -- after the first call all marks are zero
 cleared : (k : tie.After-clear-bytes) → k .clear-bytes .last .0 ≡ replicate (length (entry k .args .flags .now)) 0
@@ -25,13 +25,14 @@ mark-starts-requires c κs =
 
 walk-requires : tie.Need-walk-requires
 walk-requires c κs =
-    let k = c .before .before .before .before .before .before .before .before .before .before .before in
+    let k = c .before .before .before .before .before .before .before .before .before .before .before .before in
     let s = entry k in
     let a = s .args in
     record {
       tables = s .pre .tables;
       state = starts-state (a .flags .now) (a .queue .now) _ _ (cleared k) (s .pre .room) (a .starts .now) (s .pre .starts-in)
-          (c .before .before .before .before .before .before .mark-starts .ensures);
+          (c .before .before .before .before .before .before .before .mark-starts .ensures);
+      clear = s .pre .clear;
     }
 
 same-length : tie.Need-same-length
@@ -40,15 +41,20 @@ same-length c = search needs
 same-length-2 : tie.Need-same-length-2
 same-length-2 c = search needs
 
+same-length-3 : tie.Need-same-length-3
+same-length-3 c = search needs
+
 returns : tie.Need-returns
 returns c =
-    let k = c .before .before .before .before .before .before .before .before .before .before .before .before .before .before .before .before in
+    let k = c .before .before .before .before .before .before .before .before .before .before .before .before .before .before .before .before .before .before .before in
     let s = entry k in
     let a = s .args in
-    let visits = c .before .before .before .before .before .before .before .before .before .before .before .mark-starts .ensures in
-    starts-captured (a .flags .now) (a .queue .now) _ _ (cleared k) (s .pre .room) (a .starts .now) (s .pre .starts-in)
-    visits (a .first .now) (a .dependency .now) (a .next .now) _
-    (c .before .before .before .before .walk .ensures .marked)
+    let visits = c .before .before .before .before .before .before .before .before .before .before .before .before .before .before .mark-starts .ensures in
+    let walked = c .before .before .before .before .before .before .walk .ensures in (
+      starts-captured (a .flags .now) (a .queue .now) _ _ (cleared k) (s .pre .room) (a .starts .now) (s .pre .starts-in)
+          visits (a .first .now) (a .dependency .now) (a .next .now) _ (walked .0 .marked),
+      walked .1,
+    )
 
 pub capture-all-spec : {M : Type 1} → statement M
 capture-all-spec =
@@ -59,4 +65,5 @@ capture-all-spec =
     walk-requires
     same-length
     same-length-2
+    same-length-3
     returns)
