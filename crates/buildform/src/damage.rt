@@ -1,4 +1,5 @@
 // The lines that spoil a build before it is handed over.
+use crate::entries;
 use crate::lengths;
 use crate::rows;
 use textform::numbers;
@@ -16,9 +17,7 @@ fn read_offsets(text: &[u8], at: usize, n: usize, shorts: &mut [u32; 3328]) -> u
     let mut place = at;
     let mut i = 0;
     while i <= n {
-        let offset = numbers::decimal_within(text, place, 4294967295);
-        shorts[rows::OFFSETS + i] = offset.value as u32;
-        place = offset.at;
+        place = entries::read_short(text, place, rows::OFFSETS + i, shorts);
         i = i + 1;
     }
     place
@@ -134,27 +133,36 @@ fn read_count(text: &[u8], at: usize, counts: &mut [usize; 6]) -> usize {
     if 4 < count {
         return words::NOWHERE;
     }
-    let value = numbers::decimal(text, word.to);
-    counts[count] = value.value as usize;
-    value.at
+    entries::read_count(text, word.to, count, counts)
+}
+
+// The length of an area of so many entries at most.
+fn read_area(text: &[u8], at: usize, most: u64, entry: usize, areas: &mut [usize; 8]) -> usize
+    requires { ⌜ entry < 8 ⌝ }
+{
+    let length = numbers::decimal_within(text, at, most);
+    areas[entry] = length.value as usize;
+    length.at
 }
 
 // areas CHUNK_OF NEXT_OF RECORDS SCRATCH
 fn read_areas(text: &[u8], at: usize, areas: &mut [usize; 8]) -> usize {
-    let chunk_of = numbers::decimal_within(text, at, 128);
-    let next_of = numbers::decimal_within(text, chunk_of.at, 128);
-    let records = numbers::decimal_within(text, next_of.at, 128);
-    let scratch = numbers::decimal_within(text, records.at, 73728);
-    let of_records = records.value as usize;
-    areas[0] = chunk_of.value as usize;
-    areas[1] = next_of.value as usize;
-    areas[2] = of_records;
-    areas[3] = of_records;
-    areas[4] = of_records;
-    areas[5] = of_records;
-    areas[6] = 4 * of_records;
-    areas[7] = scratch.value as usize;
-    scratch.at
+    let after_chunk_of = read_area(text, at, 128, 0, areas);
+    let after_next_of = read_area(text, after_chunk_of, 128, 1, areas);
+    let records = numbers::decimal_within(text, after_next_of, 128);
+    set_records(records.value as usize, areas);
+    read_area(text, records.at, 73728, 7, areas)
+}
+
+// All areas of chunk records get the same length; that of bits in words.
+fn set_records(length: usize, areas: &mut [usize; 8])
+    requires { ⌜ length ≤ 128 ⌝ }
+{
+    areas[2] = length;
+    areas[3] = length;
+    areas[4] = length;
+    areas[5] = length;
+    areas[6] = 4 * length;
 }
 
 // One line, of which the first word has been read.

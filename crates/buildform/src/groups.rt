@@ -1,4 +1,5 @@
 // The lines of groups and of their answers.
+use crate::entries;
 use crate::fields;
 use crate::rows;
 use filter::MinShareCount;
@@ -67,17 +68,56 @@ fn given_byte(own: Options, entries_aware: Recursion) -> u8 {
     sizes + share_bit(e) + choice_bit(f, 32, 96) + choice_bit(entries_aware, 0, 128)
 }
 
-fn store_limits(own: Options, i: usize, doubles: &mut [f64; 640])
+fn store_limit(limit: Limit, entry: usize, doubles: &mut [f64; 640])
+    requires { ⌜ entry < 640 ⌝ }
+{
+    doubles[entry] = limit_or_zero(limit);
+}
+
+fn store_count(count: MinShareCount, entry: usize, shorts: &mut [u32; 3328])
+    requires { ⌜ entry < 3328 ⌝ }
+{
+    shorts[entry] = count_or_zero(count);
+}
+
+// The options that group i has of its own.
+fn store_options(own: Options, i: usize, shorts: &mut [u32; 3328], doubles: &mut [f64; 640])
     requires { ⌜ i < 96 ⌝ }
 {
     let a = own.min_size;
     let b = own.max_size;
     let c = own.min_module_size;
     let d = own.max_module_size;
-    doubles[rows::MIN_SIZE + i] = limit_or_zero(a);
-    doubles[rows::MAX_SIZE + i] = limit_or_zero(b);
-    doubles[rows::MIN_MODULE_SIZE + i] = limit_or_zero(c);
-    doubles[rows::MAX_MODULE_SIZE + i] = limit_or_zero(d);
+    let shares = own.min_share_count;
+    store_limit(a, rows::MIN_SIZE + i, doubles);
+    store_limit(b, rows::MAX_SIZE + i, doubles);
+    store_limit(c, rows::MIN_MODULE_SIZE + i, doubles);
+    store_limit(d, rows::MAX_MODULE_SIZE + i, doubles);
+    store_count(shares, rows::MIN_SHARE_COUNT + i, shorts);
+}
+
+// PRIORITY ENTRIES_AWARE THRESHOLD
+fn read_own(
+    text: &[u8],
+    at: usize,
+    i: usize,
+    options: Options,
+    bytes: &mut [u8; 256],
+    shorts: &mut [u32; 3328],
+    table: &mut [f64; 640],
+) -> usize
+    requires { ⌜ i < 96 ⌝ }
+{
+    let priority = fields::share_count(text, at);
+    let aware = fields::choice(text, priority.at);
+    let threshold = doubles::limit(text, aware.at);
+    let rank = priority.value;
+    let entries_aware = aware.value;
+    let least = threshold.value;
+    bytes[rows::GIVEN + i] = given_byte(options, entries_aware);
+    store_count(rank, rows::PRIORITY + i, shorts);
+    store_limit(least, rows::THRESHOLD + i, table);
+    threshold.at
 }
 
 // The line of group i.
@@ -93,22 +133,10 @@ fn read_group(
     requires { ⌜ i < 96 ⌝ }
 {
     let own = fields::options(text, fields::letter(text, at, b'g'));
-    let mask = numbers::hexadecimal(text, own.at);
-    let priority = fields::share_count(text, mask.at);
-    let aware = fields::choice(text, priority.at);
-    let threshold = doubles::limit(text, aware.at);
     let options = own.value;
-    let shares = options.min_share_count;
-    let rank = priority.value;
-    let entries_aware = aware.value;
-    let least = threshold.value;
-    bytes[rows::GIVEN + i] = given_byte(options, entries_aware);
-    shorts[rows::MIN_SHARE_COUNT + i] = count_or_zero(shares);
-    shorts[rows::PRIORITY + i] = count_or_zero(rank);
-    longs[rows::GROUP_TAGS + i] = mask.value;
-    store_limits(options, i, table);
-    table[rows::THRESHOLD + i] = limit_or_zero(least);
-    threshold.at
+    store_options(options, i, shorts, table);
+    let after_mask = entries::read_word(text, own.at, rows::GROUP_TAGS + i, longs);
+    read_own(text, after_mask, i, options, bytes, shorts, table)
 }
 
 pub fn read_groups(
@@ -138,9 +166,7 @@ fn read_row(text: &[u8], at: usize, from: usize, n: usize, shorts: &mut [u32; 33
     let mut place = fields::letter(text, at, b'a');
     let mut i = 0;
     while i < n {
-        let answer = numbers::decimal_within(text, place, 4294967295);
-        shorts[rows::ANSWERS + from + i] = answer.value as u32;
-        place = answer.at;
+        place = entries::read_short(text, place, rows::ANSWERS + from + i, shorts);
         i = i + 1;
     }
     place

@@ -1,5 +1,6 @@
 // Whole builds of the text form, read into tables. A build is read word by word; how its words fall into lines is not looked at.
 pub mod damage;
+pub mod entries;
 pub mod fields;
 pub mod groups;
 pub mod lengths;
@@ -32,21 +33,17 @@ fn read_counts(text: &[u8], at: usize, counts: &mut [usize; 6]) -> Head
 {
     let n = numbers::decimal_within(text, at, rows::MODULES);
     let g = numbers::decimal_within(text, n.at, rows::GROUPS);
-    let e = numbers::decimal(text, g.at);
-    let k = numbers::decimal(text, e.at);
-    let d = numbers::decimal_within(text, k.at, rows::RECORDS);
-    let on_entry = numbers::decimal(text, d.at);
+    let after_e = entries::read_count(text, g.at, 2, counts);
+    let after_k = entries::read_count(text, after_e, 3, counts);
+    let d = numbers::decimal_within(text, after_k, rows::RECORDS);
     counts[0] = n.value as usize;
     counts[1] = g.value as usize;
-    counts[2] = e.value as usize;
-    counts[3] = k.value as usize;
     counts[4] = d.value as usize;
-    counts[5] = on_entry.value as usize;
     Head {
         n: n.value as usize,
         g: g.value as usize,
         d: d.value as usize,
-        at: on_entry.at,
+        at: entries::read_count(text, d.at, 5, counts),
     }
 }
 

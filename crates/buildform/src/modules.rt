@@ -1,14 +1,14 @@
 // The lines of modules and of dependency records.
+use crate::entries;
 use crate::fields;
 use crate::rows;
 use index::ModuleIdx;
 use index::RecordIdx;
-use textform::numbers;
 use textform::numbers::Field;
 use textform::pairs;
 ghost use Prim.Native.Nat.{_<_, _≤_};
 
-// FLAGS SIZE ORDER SHARE_COUNT TAGS
+// FLAGS SIZE ORDER SHARE_COUNT TAGS. Answers the place past the last word, as each reader does that has no other value.
 fn read_numbers(
     text: &[u8],
     at: usize,
@@ -19,38 +19,46 @@ fn read_numbers(
 ) -> usize
     requires { ⌜ m .0 < 64 ⌝ }
 {
-    let flags = numbers::decimal_within(text, at, 255);
-    let size = numbers::decimal(text, flags.at);
-    let order = numbers::decimal_within(text, size.at, 4294967295);
-    let shares = numbers::decimal_within(text, order.at, 4294967295);
-    let tags = numbers::hexadecimal(text, shares.at);
     let i = m.0 as usize;
-    bytes[rows::FLAGS + i] = flags.value as u8;
-    shorts[rows::ORDERS + i] = order.value as u32;
-    shorts[rows::SHARES + i] = shares.value as u32;
-    longs[rows::SIZES + i] = size.value;
-    longs[rows::TAGS + i] = tags.value;
-    tags.at
+    let after_flags = entries::read_byte(text, at, rows::FLAGS + i, bytes);
+    let after_size = entries::read_long(text, after_flags, rows::SIZES + i, longs);
+    let after_order = entries::read_short(text, after_size, rows::ORDERS + i, shorts);
+    let after_shares = entries::read_short(text, after_order, rows::SHARES + i, shorts);
+    entries::read_word(text, after_shares, rows::TAGS + i, longs)
 }
 
 // W0 W1 W2 W3
 fn read_bits(text: &[u8], at: usize, m: ModuleIdx, longs: &mut [u64; 896]) -> usize
     requires { ⌜ m .0 < 64 ⌝ }
 {
-    let a = numbers::hexadecimal(text, at);
-    let b = numbers::hexadecimal(text, a.at);
-    let c = numbers::hexadecimal(text, b.at);
-    let d = numbers::hexadecimal(text, c.at);
     let i = m.0 as usize;
     let from = rows::BITS + 4 * i;
-    longs[from] = a.value;
-    longs[from + 1] = b.value;
-    longs[from + 2] = c.value;
-    longs[from + 3] = d.value;
-    d.at
+    let after_first = entries::read_word(text, at, from, longs);
+    let after_second = entries::read_word(text, after_first, from + 1, longs);
+    let after_third = entries::read_word(text, after_second, from + 2, longs);
+    entries::read_word(text, after_third, from + 3, longs)
 }
 
-// A line of a module. The value is the place past the id's bytes, which is the next offset.
+// FIRST ID. The value is the place past the id's bytes, which is the next offset.
+fn read_id(
+    text: &[u8],
+    at: usize,
+    m: ModuleIdx,
+    ids: &mut [u8; 16384],
+    from: usize,
+    shorts: &mut [u32; 3328],
+) -> Field
+    requires { ⌜ (m .0 < 64) × (from ≤ 16384) ⌝ }
+    ensures { λ r. ⌜ r .value ≤ 16384 ⌝ }
+{
+    let i = m.0 as usize;
+    let after_first = entries::read_short(text, at, rows::FIRST + i, shorts);
+    let id = pairs::read(text, after_first, ids, from);
+    shorts[rows::OFFSETS + 1 + i] = id.value as u32;
+    id
+}
+
+// A line of a module. The value is the place past the id's bytes.
 fn read_module(
     text: &[u8],
     at: usize,
@@ -67,12 +75,7 @@ fn read_module(
     let after_letter = fields::letter(text, at, b'm');
     let after_numbers = read_numbers(text, after_letter, m, bytes, shorts, longs);
     let after_bits = read_bits(text, after_numbers, m, longs);
-    let first = numbers::decimal_within(text, after_bits, 4294967295);
-    let id = pairs::read(text, first.at, ids, from);
-    let i = m.0 as usize;
-    shorts[rows::FIRST + i] = first.value as u32;
-    shorts[rows::OFFSETS + 1 + i] = id.value as u32;
-    id
+    read_id(text, after_bits, m, ids, from, shorts)
 }
 
 // The lines of so many modules. The value is how many bytes the ids have.
@@ -108,13 +111,10 @@ pub fn read_modules(
 fn read_record(text: &[u8], at: usize, r: RecordIdx, shorts: &mut [u32; 3328]) -> usize
     requires { ⌜ r .0 ≤ 128 ⌝ }
 {
-    let after_letter = fields::letter(text, at, b'd');
-    let module = numbers::decimal_within(text, after_letter, 4294967295);
-    let next = numbers::decimal_within(text, module.at, 4294967295);
     let i = r.0 as usize;
-    shorts[rows::DEPENDENCY + i] = module.value as u32;
-    shorts[rows::NEXT + i] = next.value as u32;
-    next.at
+    let after_letter = fields::letter(text, at, b'd');
+    let after_module = entries::read_short(text, after_letter, rows::DEPENDENCY + i, shorts);
+    entries::read_short(text, after_module, rows::NEXT + i, shorts)
 }
 
 // The lines of so many records. Record 0 is never read: it holds numbers out of every range.

@@ -16,23 +16,14 @@ letter-requires c κs = search needs
 loop-holds : tie.Need-loop-holds Inv-loop μ-loop
 loop-holds c = search needs
 
-decimal-within-requires : tie.Need-decimal-within-requires Inv-loop μ-loop
-decimal-within-requires c κs = search needs
+add-read-short : tie.Need-add-read-short Inv-loop μ-loop
+add-read-short c = search needs
 
-cast-shorts : tie.Need-cast-shorts Inv-loop μ-loop
-cast-shorts c = search needs
+add-read-short-2 : tie.Need-add-read-short-2 Inv-loop μ-loop
+add-read-short-2 c = search needs
 
-add-shorts : tie.Need-add-shorts Inv-loop μ-loop
-add-shorts c = search needs
-
-add-shorts-2 : tie.Need-add-shorts-2 Inv-loop μ-loop
-add-shorts-2 c = search needs
-
-mul-shorts : tie.Need-mul-shorts Inv-loop μ-loop
-mul-shorts c = search needs
-
-element-write-shorts : tie.Need-element-write-shorts Inv-loop μ-loop
-element-write-shorts c = search needs
+read-short-requires : tie.Need-read-short-requires Inv-loop μ-loop
+read-short-requires c κs = search needs
 
 add-i : tie.Need-add-i Inv-loop μ-loop
 add-i c = search needs
@@ -54,12 +45,9 @@ read-row-spec =
     μ-loop
     letter-requires
     loop-holds
-    decimal-within-requires
-    cast-shorts
-    add-shorts
-    add-shorts-2
-    mul-shorts
-    element-write-shorts
+    add-read-short
+    add-read-short-2
+    read-short-requires
     add-i
     loop-less
     loop-again
