@@ -1,9 +1,8 @@
-// One call of Chunks over the tables of a build, and its answer in the text form.
-pub mod areas;
-pub mod list;
-pub mod looks;
-
+// One call of Chunks, and its answer in the text form.
 use chunks::ChunksAnswer;
+use listform::areas;
+use listform::list;
+use listform::looks;
 use options::Options;
 use textform::out;
 ghost use Prim.Native.Nat.{_≤_};
@@ -130,16 +129,10 @@ pub fn answer(
     priority: &[u32],
     threshold: &[f64],
     answers: &[u32],
-    a: usize,
-    b: usize,
-    c: usize,
-    d: usize,
-    e: usize,
-    f: usize,
-    g: usize,
-    h: usize,
+    lent: Lent,
 )
-    requires { ⌜ (a ≤ 128) × (b ≤ 128) × (c ≤ 128) × (d ≤ 128) × (e ≤ 128) × (f ≤ 128) × (g ≤ 512) × (h ≤ 73728) ⌝ }
+    requires { ⌜ (lent .«chunk_of» ≤ 128) × (lent .«next_of» ≤ 128) × (lent .«first_of» ≤ 128) × (lent .«group_of» ≤ 128)
+      × (lent .«name_of» ≤ 128) × (lent .«size_of» ≤ 128) × (lent .«bits_of» ≤ 512) × (lent .scratch ≤ 73728) ⌝ }
 {
     let mut chunk_of = [areas::NUMBER; 128];
     let mut next_of = [areas::NUMBER; 128];
@@ -149,6 +142,14 @@ pub fn answer(
     let mut size_of = [areas::SIZE; 128];
     let mut bits_of = [areas::WORD; 512];
     let mut scratch = [areas::NUMBER; 73728];
+    let a = lent.chunk_of;
+    let b = lent.next_of;
+    let c = lent.first_of;
+    let d = lent.group_of;
+    let e = lent.name_of;
+    let f = lent.size_of;
+    let g = lent.bits_of;
+    let h = lent.scratch;
     let answer = chunks::split(
         counts.n,
         counts.g,

@@ -1,0 +1,4 @@
+mod calls;
+mod tables;
+
+fn main() {}
