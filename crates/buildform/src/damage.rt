@@ -1,7 +1,7 @@
 // The lines that spoil a build before it is handed over.
-use crate::entries;
 use crate::lengths;
-use crate::rows;
+use buildlines::entries;
+use buildlines::rows;
 use textform::numbers;
 use textform::words;
 use textform::words::Span;

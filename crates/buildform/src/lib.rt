@@ -1,16 +1,15 @@
-// Whole builds of the text form, read into tables. A build is read word by word; how its words fall into lines is not looked at.
+// Whole builds of the text form, with the lines that spoil them, read into rows of tables.
 pub mod damage;
-pub mod entries;
-pub mod fields;
-pub mod groups;
 pub mod lengths;
-pub mod modules;
-pub mod rows;
 
+use buildlines::entries;
+use buildlines::fields;
+use buildlines::groups;
+use buildlines::modules;
+use buildlines::rows;
 use options::Options;
 use textform::numbers;
-use textform::numbers::Field;
-ghost use Prim.Native.Nat.{_*_, _≤_};
+ghost use Prim.Native.Nat.{_≤_};
 
 // The global options, how many bytes the ids have, and the place past the build; past every text if it can't be read.
 pub struct Build {

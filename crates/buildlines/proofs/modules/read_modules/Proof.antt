@@ -1,9 +1,9 @@
--- `buildform::modules::read_modules` is safe and ends.
+-- `buildlines::modules::read_modules` is safe and ends.
 -- The place past the ids stays within their area. The measure is the number of modules that are left.
 use Prim.Native.Nat.{_≤_, _-_}
 use borrow.Author.Needs.{needs}
-use Rattle.buildform.proofs.modules.read_modules.Statement.{statement}
-use Rattle.buildform.proofs.modules.read_modules.Tie as tie
+use Rattle.buildlines.proofs.modules.read_modules.Statement.{statement}
+use Rattle.buildlines.proofs.modules.read_modules.Tie as tie
 
 abbrev Inv-loop : tie.InvT-loop
 Inv-loop text at n ids₀ bytes₀ shorts₀ longs₀ place₀ end₀ i₀ ids bytes shorts longs place end i = end ≤ 16384

@@ -1,8 +1,8 @@
--- `buildform::groups::read_groups` is safe and ends. The measure is the number of groups that are left.
+-- `buildlines::groups::read_groups` is safe and ends. The measure is the number of groups that are left.
 use Prim.Native.Nat.{_-_}
 use borrow.Author.Needs.{needs}
-use Rattle.buildform.proofs.groups.read_groups.Statement.{statement}
-use Rattle.buildform.proofs.groups.read_groups.Tie as tie
+use Rattle.buildlines.proofs.groups.read_groups.Statement.{statement}
+use Rattle.buildlines.proofs.groups.read_groups.Tie as tie
 
 abbrev Inv-loop : tie.InvT-loop
 Inv-loop text at g bytes₀ shorts₀ longs₀ table₀ place₀ i₀ bytes shorts longs table place i = Unit {0}

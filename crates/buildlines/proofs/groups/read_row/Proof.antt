@@ -1,8 +1,8 @@
--- `buildform::groups::read_row` is safe and ends. The measure is the number of answers that are left.
+-- `buildlines::groups::read_row` is safe and ends. The measure is the number of answers that are left.
 use Prim.Native.Nat.{_-_}
 use borrow.Author.Needs.{needs}
-use Rattle.buildform.proofs.groups.read_row.Statement.{statement}
-use Rattle.buildform.proofs.groups.read_row.Tie as tie
+use Rattle.buildlines.proofs.groups.read_row.Statement.{statement}
+use Rattle.buildlines.proofs.groups.read_row.Tie as tie
 
 abbrev Inv-loop : tie.InvT-loop
 Inv-loop text at from n shorts₀ place₀ i₀ shorts place i = Unit {0}

@@ -1,9 +1,9 @@
--- `buildcases::calls::answer` is safe: no area is lent longer than it is.
+-- `buildcalls::answer` is safe: no area is lent longer than it is.
 use mathlib.Core.Path.{sym}
 use lib.Seq.{length-take-le}
 use borrow.Author.Needs.{needs}
-use Rattle.buildcases.proofs.calls.answer.Statement.{statement}
-use Rattle.buildcases.proofs.calls.answer.Tie as tie
+use Rattle.buildcalls.proofs.answer.Statement.{statement}
+use Rattle.buildcalls.proofs.answer.Tie as tie
 
 array-borrow-prefix-chunk-of : tie.Need-array-borrow-prefix-chunk-of
 array-borrow-prefix-chunk-of c = search needs

@@ -1,8 +1,8 @@
--- `buildform::modules::read_records` is safe and ends. The measure is the number of records that are left.
+-- `buildlines::modules::read_records` is safe and ends. The measure is the number of records that are left.
 use Prim.Native.Nat.{_-_}
 use borrow.Author.Needs.{needs}
-use Rattle.buildform.proofs.modules.read_records.Statement.{statement}
-use Rattle.buildform.proofs.modules.read_records.Tie as tie
+use Rattle.buildlines.proofs.modules.read_records.Statement.{statement}
+use Rattle.buildlines.proofs.modules.read_records.Tie as tie
 
 abbrev Inv-loop : tie.InvT-loop
 Inv-loop text at d shorts₀ place₀ i₀ shorts place i = Unit {0}

@@ -1,9 +1,9 @@
--- `buildform::groups::read_answers` is safe and ends.
+-- `buildlines::groups::read_answers` is safe and ends.
 -- What is read before a row is 1,024 answers at most, so that there is room for the row. The measure is the number of groups that are left.
 use Prim.Native.Nat.{_≤_, _-_}
 use borrow.Author.Needs.{needs}
-use Rattle.buildform.proofs.groups.read_answers.Statement.{statement}
-use Rattle.buildform.proofs.groups.read_answers.Tie as tie
+use Rattle.buildlines.proofs.groups.read_answers.Statement.{statement}
+use Rattle.buildlines.proofs.groups.read_answers.Tie as tie
 
 abbrev Inv-loop : tie.InvT-loop
 Inv-loop text at g n shorts₀ place₀ from₀ i₀ shorts place from i = from ≤ 1088
