@@ -8,3 +8,4 @@ pub mod Sharing
 pub mod ByBlocks
 pub mod Filling
 pub mod Inserting
+pub mod OneRound
