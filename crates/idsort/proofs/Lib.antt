@@ -1,0 +1,11 @@
+-- The laws of blocks and of shared bytes, of sorting by them, and what the proofs of the code cite.
+pub mod Bytes
+pub mod Prefixes
+pub mod Refining
+pub mod Packing
+pub mod SortRuns
+pub mod Sharing
+pub mod ByBlocks
+pub mod Filling
+pub mod Inserting
+pub mod OneRound
