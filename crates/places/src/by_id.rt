@@ -1,8 +1,8 @@
 // Ranks of the modules among their ids, and refusal 4.
 use ids::order::id_before;
 use ids::parts::id_at;
+use idsort::rounds::sort_by_id;
 use index::ModuleIdx;
-use sorts::by_id::sort_by_id;
 ghost use mathlib.Core.Path.{_≡_};
 ghost use Prim.Native.Nat.{_+_, _<_};
 ghost use lib.ListN.{length};
