@@ -64,7 +64,16 @@ fn show(
         }
         ChunksAnswer::Made(count) => {
             show_list(
-                tag, count, n, chunk_of, next_of, first_of, group_of, name_of, size_of, bits_of,
+                tag,
+                count,
+                n,
+                chunk_of,
+                next_of,
+                first_of,
+                group_of,
+                name_of,
+                size_of,
+                bits_of,
             );
             looks::cleared_scratch(tag, lent, scratch);
         }
@@ -90,7 +99,15 @@ fn show_list(
     out::line_end();
     let made = least(count, n);
     let good = list::chunks(
-        made, n, chunk_of, next_of, first_of, group_of, name_of, size_of, bits_of,
+        made,
+        n,
+        chunk_of,
+        next_of,
+        first_of,
+        group_of,
+        name_of,
+        size_of,
+        bits_of,
     );
     list::chunk_of_modules(n, chunk_of);
     if !good {
@@ -132,7 +149,7 @@ pub fn answer(
     lent: Lent,
 )
     requires { ⌜ (lent .«chunk_of» ≤ 128) × (lent .«next_of» ≤ 128) × (lent .«first_of» ≤ 128) × (lent .«group_of» ≤ 128)
-      × (lent .«name_of» ≤ 128) × (lent .«size_of» ≤ 128) × (lent .«bits_of» ≤ 512) × (lent .scratch ≤ 73728) ⌝ }
+        × (lent .«name_of» ≤ 128) × (lent .«size_of» ≤ 128) × (lent .«bits_of» ≤ 512) × (lent .scratch ≤ 73728) ⌝ }
 {
     let mut chunk_of = [areas::NUMBER; 128];
     let mut next_of = [areas::NUMBER; 128];

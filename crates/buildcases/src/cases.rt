@@ -40,7 +40,17 @@ fn answer_case(text: &[u8], tag: &[u8], at: usize) -> usize {
     let options = build.options;
     let id_bytes = build.id_bytes;
     tables::answer(
-        tag, &counts, &lengths, &areas, options, id_bytes, &ids, &bytes, &shorts, &longs, &doubles,
+        tag,
+        &counts,
+        &lengths,
+        &areas,
+        options,
+        id_bytes,
+        &ids,
+        &bytes,
+        &shorts,
+        &longs,
+        &doubles,
     );
     build.at
 }

@@ -77,7 +77,7 @@ fn lengths_of(lengths: &[usize; 20]) -> Lengths {
 // What was read is never more than there is.
 fn lent_of(areas: &[usize; 8]) -> Lent
     ensures { λ r. ⌜ (r .«chunk_of» ≤ 128) × (r .«next_of» ≤ 128) × (r .«first_of» ≤ 128) × (r .«group_of» ≤ 128)
-      × (r .«name_of» ≤ 128) × (r .«size_of» ≤ 128) × (r .«bits_of» ≤ 512) × (r .scratch ≤ 73728) ⌝ }
+        × (r .«name_of» ≤ 128) × (r .«size_of» ≤ 128) × (r .«bits_of» ≤ 512) × (r .scratch ≤ 73728) ⌝ }
 {
     Lent {
         chunk_of: least(areas[0], 128),

@@ -4,7 +4,9 @@ ghost use Prim.Native.Nat.{_≤_};
 // The places of the lengths: flags, sizes, orders, shares, tags, bits (in words), offsets, first, dependency, next, the nine tables of groups,
 // answers. An area's place is that of the call: chunk_of, next_of, first_of, group_of, name_of, size_of, bits_of (in words), scratch.
 pub const BITS: usize = 5;
+
 pub const FIRST_OF_GROUPS: usize = 10;
+
 pub const ANSWERS: usize = 19;
 
 // The lengths that the counts imply, where all groups together have so many answers.
@@ -15,7 +17,26 @@ pub fn implied(n: usize, g: usize, d: usize, answers: usize) -> [usize; 20]
     let offsets = n + 1;
     let records = d + 1;
     [
-        n, n, n, n, n, bits, offsets, n, records, records, g, g, g, g, g, g, g, g, g, answers,
+        n,
+        n,
+        n,
+        n,
+        n,
+        bits,
+        offsets,
+        n,
+        records,
+        records,
+        g,
+        g,
+        g,
+        g,
+        g,
+        g,
+        g,
+        g,
+        g,
+        answers,
     ]
 }
 
@@ -26,7 +47,14 @@ pub fn spare(n: usize) -> [usize; 8]
     let entries = n + 3;
     let bits = 4 * entries;
     [
-        entries, entries, entries, entries, entries, entries, bits, 73728,
+        entries,
+        entries,
+        entries,
+        entries,
+        entries,
+        entries,
+        bits,
+        73728,
     ]
 }
 

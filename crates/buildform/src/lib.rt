@@ -98,7 +98,16 @@ pub fn read(
     let implied = lengths::implied(head.n, head.g, head.d, tables.answers);
     *all = implied;
     *areas = lengths::spare(head.n);
-    let end = damage::read_damage(text, tables.at, head.n, &implied, shorts, counts, all, areas);
+    let end = damage::read_damage(
+        text,
+        tables.at,
+        head.n,
+        &implied,
+        shorts,
+        counts,
+        all,
+        areas,
+    );
     let options = own.value;
     Build {
         options,

@@ -1,6 +1,8 @@
 // What lent areas hold before a call, and whether they hold it still. No call has reason to write these values.
 pub const NUMBER: u32 = 2779096485;
+
 pub const WORD: u64 = 11936128518282651045;
+
 pub const SIZE: f64 = -0.5;
 
 // Whether all numbers from a place on are as they were.

@@ -115,7 +115,15 @@ pub fn chunks(
     let mut i = 0;
     while i < count {
         if !chunk(
-            i, n, chunk_of, next_of, first_of, group_of, name_of, size_of, bits_of,
+            i,
+            n,
+            chunk_of,
+            next_of,
+            first_of,
+            group_of,
+            name_of,
+            size_of,
+            bits_of,
         ) {
             good = false;
         }
