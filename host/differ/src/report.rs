@@ -85,10 +85,12 @@ fn print_library(tally: &LibraryTally) {
 
 /// Random builds of 4,096 modules and 65,535 records.
 fn print_large(tally: &LargeTally) {
-    let LargeTally { builds, damaged, most_pairs, seconds } = tally;
+    let LargeTally { builds, damaged, most_pairs, many_pairs, seconds } = tally;
     if *builds > 0 {
-        print!("  of 4,096 modules and 65,535 records: {builds} random, {damaged} damaged, ");
-        println!("P up to {most_pairs}; {:.1} s", seconds.as_secs_f64());
+        print!(
+            "  of 4,096 modules and 65,535 records: {builds} random, {damaged} damaged, P up to "
+        );
+        println!("{most_pairs}, above 65535 in {many_pairs}; {:.1} s", seconds.as_secs_f64());
     }
 }
 

@@ -57,8 +57,9 @@ pub struct LargeTally {
     pub builds: u64,
     /// Damaged copies.
     pub damaged: u64,
-    /// The largest P among them.
+    /// The largest P among them, and how many have a P above 65,535.
     pub most_pairs: usize,
+    pub many_pairs: u64,
     pub seconds: Duration,
 }
 

@@ -10,9 +10,10 @@ use crate::{
     rng::Rng,
 };
 
-/// One in so many builds has a second one that is alike but for load numbers, and as many others a
-/// damaged copy.
+/// One build in so many has a second one that is alike but for load numbers.
 const PAIRED: u64 = 10;
+
+/// One in so many has a damaged copy.
 const DAMAGED: u64 = 5;
 
 impl Run {
@@ -24,6 +25,7 @@ impl Run {
             let question = builds::question(large_build::random(&mut rng, self.plan.largest_p));
             let response = self.check(&question);
             tally.large.most_pairs = tally.large.most_pairs.max(pairs(&question));
+            tally.large.many_pairs += u64::from(pairs(&question) > 65_535);
             tally.large.builds += 1;
             tally.largest += 1;
             if case % PAIRED == 0 {

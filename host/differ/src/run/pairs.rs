@@ -39,14 +39,14 @@ impl Run {
         first: &Build,
         list: &ChunkList,
         second: Renumbered,
-        areas: Vec<usize>,
+        areas: Option<Vec<usize>>,
     ) {
         let Renumbered { build, numbers } = second;
         self.pairs.pairs += 1;
         self.pairs.chunks += u64::from(!list.chunks.is_empty());
         self.pairs.chains += u64::from(list.chunks.iter().any(|chunk| chunk.modules.len() > 1));
         self.pairs.records += u64::from(build.records.len() != first.records.len());
-        let damage = Damage { areas: Some(areas), ..Damage::default() };
+        let damage = Damage { areas, ..Damage::default() };
         let question = Question::Chunks(Box::new(Chunks { build, damage }));
         let expected = Response::Answered(Answer::Chunks(translated(list, &numbers)));
         let response = self.check(&question);
@@ -63,10 +63,10 @@ impl Run {
     }
 }
 
-/// Areas of another length: as long as the build needs, or a little longer.
-fn lent(rng: &mut Rng, build: &Build) -> Vec<usize> {
+/// Lengths of the areas: exactly what the build needs, or some room to spare.
+fn lent(rng: &mut Rng, build: &Build) -> Option<Vec<usize>> {
     let n = build.modules.len();
-    [n, n, n, tables::scratch_need(build)].map(|need| need + rng.at(4)).to_vec()
+    rng.maybe(2, |_| vec![n, n, n, tables::scratch_need(build)])
 }
 
 /// A list with its modules in the numbers of the second build.
