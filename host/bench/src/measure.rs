@@ -24,16 +24,11 @@ pub struct Figures {
     pub pass: Times,
     /// The crate's time over the library's: the median of the series' median ratios.
     pub ratio: f64,
+    /// The library's time over that of one pass, found likewise.
+    pub passes: f64,
     /// How many series, and turns in each.
     pub series: usize,
     pub turns: usize,
-}
-
-impl Figures {
-    /// The library's time over that of one pass.
-    pub fn passes(&self) -> f64 {
-        self.library.median / self.pass.median
-    }
 }
 
 /// One run of each side.
@@ -47,12 +42,12 @@ pub fn measure(case: &mut dyn Case, seconds: f64) -> Figures {
     let turns = (possible as usize / series).clamp(1, TURNS);
     let all: Vec<Vec<Turn>> =
         (0..series).map(|_| (0..turns).map(|_| turn(case)).collect()).collect();
-    let ratios = all.iter().map(|turns| median(turns.iter().map(|turn| turn[0] / turn[1])));
     Figures {
         of_crate: times(&all, 0),
         library: times(&all, 1),
         pass: times(&all, 2),
-        ratio: median(ratios),
+        ratio: ratio(&all, 0, 1),
+        passes: ratio(&all, 1, 2),
         series,
         turns,
     }
@@ -67,6 +62,11 @@ fn times(all: &[Vec<Turn>], side: usize) -> Times {
     let best = all.iter().flatten().map(|turn| turn[side]).fold(f64::INFINITY, f64::min);
     let medians = all.iter().map(|turns| median(turns.iter().map(|turn| turn[side])));
     Times { best, median: median(medians) }
+}
+
+/// One side's time over another's: the median of the series' medians.
+fn ratio(all: &[Vec<Turn>], over: usize, under: usize) -> f64 {
+    median(all.iter().map(|turns| median(turns.iter().map(|turn| turn[over] / turn[under]))))
 }
 
 /// The middle one, the upper of two.

@@ -4,6 +4,7 @@ use std::fmt::Write;
 
 use crate::{
     measure::{Figures, measure},
+    report::grouped,
     shapes::{Shape, by_key},
     whole::{Whole, undamaged},
 };
@@ -93,7 +94,7 @@ fn axes() -> String {
     for count in COUNTS {
         let at = x(f64::from(count));
         svg += &ruler((at, TOP), (at, BOTTOM));
-        svg += &label_at((at, BOTTOM + 22.0), "middle", &count.to_string());
+        svg += &label_at((at, BOTTOM + 22.0), "middle", &grouped(u64::from(count)));
     }
     let (width, height) = (RIGHT - LEFT, BOTTOM - TOP);
     let _ = writeln!(
@@ -155,16 +156,19 @@ fn marks(points: &[(f64, f64)], colour: &str, fill: &str) -> String {
 /// What the lines and the colours mean.
 fn legend(measured: &[Measured]) -> String {
     let mut rows = vec![
-        ("#333333", CRATE, "the crate"),
-        ("#333333", LIBRARY, "the library"),
-        ("#777777", PASS, "one pass over flat's tables"),
+        ("#333333", CRATE, "white", "the crate"),
+        ("#333333", LIBRARY, "#333333", "the library"),
+        ("#777777", PASS, "none", "one pass over flat's tables"),
     ];
-    rows.extend(measured.iter().map(|one| (one.colour, LIBRARY, one.shape.label)));
+    rows.extend(measured.iter().map(|one| (one.colour, LIBRARY, one.colour, one.shape.label)));
     let mut svg = String::new();
-    for (place, (colour, style, label)) in rows.into_iter().enumerate() {
+    for (place, (colour, style, fill, label)) in rows.into_iter().enumerate() {
         let gap = if place < 3 { 0.0 } else { 18.0 };
         let (at, height) = (RIGHT + 20.0, TOP + 14.0 + 26.0 * place as f64 + gap);
         svg += &line(&[(at, height), (at + 34.0, height)], colour, style);
+        if fill != "none" {
+            svg += &marks(&[(at + 17.0, height)], colour, fill);
+        }
         svg += &label_at((at + 44.0, height + 5.0), "start", label);
     }
     svg

@@ -81,7 +81,7 @@ fn of_builds(rows: &[BuildRow]) -> Table {
     Table { title: "Whole builds", columns, rows: rows.iter().map(row).collect() }
 }
 
-/// From the lowest count of each shape to the highest.
+/// From the lower count of each shape to the higher; growth is that of the best times.
 fn of_growth(rows: &[BuildRow]) -> Table {
     let columns = vec![
         "build",
@@ -98,10 +98,10 @@ fn of_growth(rows: &[BuildRow]) -> Table {
         let numbers = [
             low.ratio,
             high.ratio,
-            low.passes(),
-            high.passes(),
-            high.of_crate.median / low.of_crate.median,
-            high.library.median / low.library.median,
+            low.passes,
+            high.passes,
+            high.of_crate.best / low.of_crate.best,
+            high.library.best / low.library.best,
         ];
         let mut cells = vec![pair[0].shape.label.to_string()];
         cells.extend(numbers.map(short));
@@ -121,7 +121,7 @@ fn of_leaves(rows: &[LeafRow]) -> Table {
 }
 
 fn figures(figures: &Figures, agreement: Agreement) -> [String; 9] {
-    let Figures { of_crate, library, pass, ratio, series, turns } = figures;
+    let Figures { of_crate, library, pass, ratio, passes, series, turns } = figures;
     let best = |times: &Times| short(times.best);
     let median = |times: &Times| short(times.median);
     [
@@ -131,7 +131,7 @@ fn figures(figures: &Figures, agreement: Agreement) -> [String; 9] {
         median(library),
         short(*ratio),
         median(pass),
-        short(figures.passes()),
+        short(*passes),
         format!("{series}×{turns}"),
         agreement.word().to_string(),
     ]
@@ -148,7 +148,7 @@ fn short(number: f64) -> String {
 }
 
 /// A number with a comma at each thousand.
-fn grouped(number: u64) -> String {
+pub fn grouped(number: u64) -> String {
     if number < 1_000 {
         return number.to_string();
     }

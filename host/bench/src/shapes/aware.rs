@@ -9,9 +9,9 @@ use crate::drawn::{drawn, word};
 pub fn all_different(count: u32) -> Build {
     let group = Group { entries_aware: Some(true), ..Group::default() };
     let mut build = flat::one_group(tree::modules(count), group);
-    build.entries = 256;
+    build.entries = 16;
     for (number, module) in (0..).zip(&mut build.modules) {
-        module.bits = wide_bits(number);
+        module.bits = narrow_bits(number);
     }
     build
 }

@@ -8,8 +8,7 @@ use crate::drawn::{drawn, shuffled};
 const FOLDER: u32 = 25;
 
 /// Words that file names begin with.
-const WORDS: [&str; 8] =
-    ["index", "button", "list", "store", "helpers", "types", "reducer", "view"];
+const WORDS: [&str; 8] = ["index", "button", "list", "store", "format", "types", "reducer", "view"];
 
 /// Where a folder lies.
 #[derive(Clone, Copy, PartialEq, Eq)]
