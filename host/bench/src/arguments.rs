@@ -1,6 +1,6 @@
 //! The command line.
 
-use crate::shapes::{self, Shape};
+use shapes::Shape;
 
 /// What the program is asked for.
 pub struct Arguments {

@@ -4,13 +4,11 @@
 
 mod arguments;
 mod case;
-mod drawn;
 mod leaves;
 mod measure;
 mod pass;
 mod picture;
 mod report;
-mod shapes;
 mod whole;
 
 use std::{env, process::ExitCode, thread};

@@ -5,9 +5,9 @@ use std::fmt::Write;
 use crate::{
     measure::{Figures, measure},
     report::grouped,
-    shapes::{Shape, by_key},
     whole::{Whole, undamaged},
 };
+use shapes::{Shape, by_key};
 
 /// The shapes in the picture, each with its colour.
 const SHAPES: [(&str, &str); 5] = [

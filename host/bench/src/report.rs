@@ -5,8 +5,8 @@ use std::{fs, io};
 use crate::{
     case::Agreement,
     measure::{Figures, Times},
-    shapes::Shape,
 };
+use shapes::Shape;
 
 /// A whole build.
 pub struct BuildRow {

@@ -10,8 +10,6 @@ mod reference;
 mod report;
 mod rng;
 mod run;
-#[path = "../../bench/src/shapes.rs"]
-mod shapes;
 mod side;
 mod slowest;
 mod stack;

@@ -18,7 +18,6 @@ use text::{Call, Chunks, Question};
 use crate::{
     generate::{self, builds, damage, damage_build, large_build, largest},
     rng::Rng,
-    shapes,
 };
 
 /// Below the size of a huge page, so that the stack is given in small ones.
@@ -49,9 +48,10 @@ pub struct Depths {
 /// Makes the timed shapes, the largest questions, so many random ones of each call, and damaged ones.
 pub fn measure(cases: u64) -> io::Result<Depths> {
     let mut depths = Depths::default();
-    for (name, shape) in shapes::ALL {
-        for count in [900, 4_096] {
-            depths.note(&builds::question(shape(count)), &format!("{name} of {count} modules"))?;
+    for shape in shapes::ALL {
+        for count in shape.counts {
+            let name = format!("{} of {count} modules", shape.label);
+            depths.note(&builds::question((shape.build)(*count)), &name)?;
         }
     }
     for call in Call::ALL {

@@ -9,8 +9,8 @@ use text::{Capture, Damage, Record, tables};
 use crate::{
     case::{Agreement, Case, Micros},
     pass,
-    shapes::{chain, chained, scattered},
 };
+use shapes::{chain, chained, scattered};
 
 /// How many modules there are.
 const COUNT: u32 = 4_096;

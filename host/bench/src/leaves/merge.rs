@@ -8,9 +8,9 @@ use text::{Damage, Merge, MergedSubgroup, Subgroup, tables};
 
 use crate::{
     case::{Agreement, Case, Micros},
-    drawn::{drawn, word},
     pass,
 };
+use shapes::drawn::{drawn, word};
 
 struct MergeCase {
     of_crate: TimedMerge,

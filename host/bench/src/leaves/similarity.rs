@@ -8,9 +8,9 @@ use text::Sim;
 
 use crate::{
     case::{Agreement, Case, Micros},
-    drawn::drawn,
     pass,
 };
+use shapes::drawn::drawn;
 
 /// How many calls are timed at once.
 const TIMES: u32 = 1_000;

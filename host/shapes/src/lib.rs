@@ -1,6 +1,8 @@
-//! The builds that are timed.
+//! The builds that are timed, and whose stack is measured.
+#![forbid(unsafe_code)]
 
 mod aware;
+pub mod drawn;
 mod flat;
 mod graph;
 mod limits;
