@@ -6,7 +6,7 @@ use gentropi::{
 };
 use text::{Answer, Chunk, ChunkList, Chunks, Group, Options, tables, tables::BuildTables};
 
-use super::{Asked, count};
+use super::{Asked, count, fitted_groups::FittedGroups};
 use crate::{Lent, Pattern};
 
 /// What came of a whole build, and the areas that were lent to the call.
@@ -38,6 +38,8 @@ pub fn ask_build(chunks: &Chunks) -> AskedBuild {
     let handed = tables::of_chunks(chunks);
     let groups = handed.groups.iter().map(group).collect();
     let tables = raw_tables(&handed, &groups);
+    let fitted = FittedGroups::new(&tables.groups, &chunks.damage);
+    let tables = ChunksTables { groups: fitted.as_tables(), ..tables };
     let mut areas = BuildAreas::new(handed.areas);
     let number = raw::chunks(&tables, areas.lend());
     let asked = if number != 0 {
@@ -100,17 +102,17 @@ pub fn group(group: &Group) -> gentropi::Group {
 }
 
 impl BuildAreas {
-    /// Areas of so many items for modules (twice), chunk records, and scratch.
-    fn new(lengths: [usize; 4]) -> Self {
-        let [chunk_of, next_of, records, scratch] = lengths;
+    /// Areas of so many items, in the order of the call.
+    fn new(lengths: [usize; 8]) -> Self {
+        let [chunk_of, next_of, first_of, group_of, name_of, size_of, bits_of, scratch] = lengths;
         Self {
             chunk_of: Lent::new("chunk_of", chunk_of),
             next_of: Lent::new("next_of", next_of),
-            first_of: Lent::new("first_of", records),
-            group_of: Lent::new("group_of", records),
-            name_of: Lent::new("name_of", records),
-            size_of: Lent::new("size_of", records),
-            bits_of: Lent::new("bits_of", 4 * records),
+            first_of: Lent::new("first_of", first_of),
+            group_of: Lent::new("group_of", group_of),
+            name_of: Lent::new("name_of", name_of),
+            size_of: Lent::new("size_of", size_of),
+            bits_of: Lent::new("bits_of", bits_of),
             scratch: Lent::new("scratch", scratch),
             count: Lent::new("count", 1),
         }

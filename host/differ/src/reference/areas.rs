@@ -14,9 +14,7 @@ pub struct Areas(Vec<Vec<u64>>);
 
 /// The areas after a call. A refused one touches none of them.
 pub fn after(tables: &BuildTables, outcome: Result<&ChunkList, u32>, rules: Rules) -> Areas {
-    let [chunk_of, next_of, records, scratch] = tables.areas;
-    let lengths = [chunk_of, next_of, records, records, records, records, 4 * records, scratch];
-    let mut areas = Areas(lengths.map(|length| (0..length).map(u64::at).collect()).to_vec());
+    let mut areas = Areas(tables.areas.map(|length| (0..length).map(u64::at).collect()).to_vec());
     match outcome {
         Ok(list) => areas.accepted(tables, list, rules),
         Err(_) => {
