@@ -1,6 +1,7 @@
-// The counts of the largest build, and the lengths of its tables and areas, under each change.
+// The counts of the largest build, and how many entries of each area are lent, under each change.
 ghost use Prim.Native.Nat.{_≤_};
 
+// The counts, and how many answers are handed over.
 pub struct Counts {
     pub n: usize,
     pub g: usize,
@@ -8,12 +9,25 @@ pub struct Counts {
     pub k: usize,
     pub d: usize,
     pub on_entry: usize,
-    // How many answers are handed over.
     pub answers: usize,
 }
 
+// How many entries of each area are lent, of bits_of in words.
+pub struct Lent {
+    pub chunk_of: usize,
+    pub next_of: usize,
+    pub first_of: usize,
+    pub group_of: usize,
+    pub name_of: usize,
+    pub size_of: usize,
+    pub bits_of: usize,
+    pub scratch: usize,
+}
+
 // As a host would have them.
-fn largest() -> Counts {
+fn largest() -> Counts
+    ensures { λ r. ⌜ (r .n ≤ 4097) × (r .d ≤ 65536) ⌝ }
+{
     Counts {
         n: 4096,
         g: 64,
@@ -26,7 +40,9 @@ fn largest() -> Counts {
 }
 
 // One of the counts that have a limit is one more, with tables to match.
-fn past_limit(change: usize) -> Counts {
+fn past_limit(change: usize) -> Counts
+    ensures { λ r. ⌜ (r .n ≤ 4097) × (r .d ≤ 65536) ⌝ }
+{
     let mut counts = largest();
     match change {
         1 => {
@@ -44,7 +60,9 @@ fn past_limit(change: usize) -> Counts {
     counts
 }
 
-pub fn counts_of(change: usize) -> Counts {
+pub fn counts_of(change: usize) -> Counts
+    ensures { λ r. ⌜ (r .n ≤ 4097) × (r .d ≤ 65536) ⌝ }
+{
     let mut counts = largest();
     match change {
         1..=5 => return past_limit(change),
@@ -56,21 +74,30 @@ pub fn counts_of(change: usize) -> Counts {
     counts
 }
 
-// How many entries of area a, in the order of the call, are lent: as many as are needed, but one less of one area under its change.
-pub fn lent(change: usize, a: usize) -> usize
-    requires { ⌜ a ≤ 7 ⌝ }
+// What is needed, but one less under the change of an area.
+fn one_less(needed: usize, change: usize, of_area: usize) -> usize
+    requires { ⌜ 1 ≤ needed ⌝ }
+    ensures { λ r. ⌜ r ≤ needed ⌝ }
 {
-    if change == 20 + a {
-        return needed(a) - 1;
+    if change == of_area {
+        return needed - 1;
     }
-    needed(a)
+    needed
 }
 
-// 64 pairs of a group and a name, and 4,096 modules, need (64 + 32) * 4,096 words of scratch.
-fn needed(a: usize) -> usize {
-    match a {
-        6 => 16384,
-        7 => 393216,
-        _ => 4096,
+// Areas for 4,096 modules. 64 pairs of a group and a name need (64 + 32) * 4,096 words of scratch.
+pub fn lent(change: usize) -> Lent
+    ensures { λ r. ⌜ (r .«chunk_of» ≤ 4096) × (r .«next_of» ≤ 4096) × (r .«first_of» ≤ 4096) × (r .«group_of» ≤ 4096)
+      × (r .«name_of» ≤ 4096) × (r .«size_of» ≤ 4096) × (r .«bits_of» ≤ 16384) × (r .scratch ≤ 393216) ⌝ }
+{
+    Lent {
+        chunk_of: one_less(4096, change, 20),
+        next_of: one_less(4096, change, 21),
+        first_of: one_less(4096, change, 22),
+        group_of: one_less(4096, change, 23),
+        name_of: one_less(4096, change, 24),
+        size_of: one_less(4096, change, 25),
+        bits_of: one_less(16384, change, 26),
+        scratch: one_less(393216, change, 27),
     }
 }

@@ -41,8 +41,14 @@ fn next_of(r: usize, last: usize) -> u32
     0
 }
 
-// One chain of all records: record r names module r % 4,096.
-pub fn records(last: usize, dependency: &mut [u32; 65537], next: &mut [u32; 65537]) {
+// One chain of all records, that of module 0: record r names module r % 4,096.
+pub fn records(
+    last: usize,
+    first: &mut [u32; 4097],
+    dependency: &mut [u32; 65537],
+    next: &mut [u32; 65537],
+) {
+    first[0] = 1;
     let mut r = 0;
     while r < 65537 {
         dependency[r] = (r % 4096) as u32;
