@@ -1,63 +1,33 @@
--- One more is looked at: it takes the place of the best so far, or the best stays.
+-- One more is looked at: it comes before the best so far, or the best stays.
 use Prim.Native.Nat.{ℕ, _≤_, _<_}
-use mathlib.Core.Bool.{Bool, true, false, cond, true≢false, false≢true}
-use mathlib.Core.Option.{some, none}
-use mathlib.Core.Path.{_≡_, refl, sym, ap, _∙_}
-use borrow.Author.Tests.{lt-ltb, le-ltb, ltb-true}
+use mathlib.Core.Bool.{Bool, true, false, cond}
+use mathlib.Core.Option.{some}
+use mathlib.Core.Path.{_≡_, refl, ap}
+use borrow.Author.Tests.{lt-ltb, le-ltb}
 use native.Mathlib.Omega.{arith}
-use lib.Dec.{ltb}
+use Rattle.lists.specs.Least.{earlier}
 use Rattle.bitset.specs.Entries.{differing}
 use Rattle.bitset.specs.declared.entries.BitSet.{BitSet}
 use Rattle.bitset.proofs.Words.{Words}
 use Rattle.bitset.proofs.Differing.{differing-ones}
-use Rattle.merge.specs.Search.{comesFirst, firstOnes, foundOf, givesWay, nearerThan, looked}
+use Rattle.merge.specs.Search.{comesFirst, firstOnes, looked}
 use Rattle.merge.specs.declared.candidate.Candidate.{Candidate}
-use Rattle.merge.specs.declared.search.Best.{Best}
 
-abbrev newBest : Candidate → Best
-newBest x = record { found = true; candidate = x }
+pub same-either : {A : Type 0} (b : Bool) (x : A) → x ≡ cond b x x
+same-either true x = refl
+same-either false x = refl
 
--- ---- by whether there is a best
+-- the best so far, once x was looked at
+pub looked-at : {A : Type 0} (before : A → A → Bool) (t : Bool) (best x next : A) → next ≡ cond t (earlier before best x) best
+    → some next ≡ looked before t (some best) x
+unfolding looked
+looked-at before true best x next e = ap some e
+looked-at before false best x next e = ap some e
 
-module _ (c x : Candidate) where
-  stays-of : (f : Bool) → cond f (comesFirst x c) true ≡ false → (t : Bool) → cond f (some c) none ≡ looked comesFirst t (cond f (some c) none) x
-  unfolding looked
-  stays-of true e true = ap some (ap (λ b. cond b x c) (sym e))
-  stays-of true e false = refl
-  stays-of false e t = absurd (true≢false e)
-
-  takes-of : (f : Bool) → cond f (comesFirst x c) true ≡ true → some x ≡ looked comesFirst true (cond f (some c) none) x
-  unfolding looked
-  takes-of true e = ap some (ap (λ b. cond b x c) (sym e))
-  takes-of false e = refl
-
-  -- n entries are at most those of x, and more than those of c
-  farther : (n : ℕ) → n ≤ x .distance → c .distance < n → comesFirst x c ≡ false
-  unfolding comesFirst
-  farther n h l = rw (le-ltb (x .distance) (c .distance) (omega arith), lt-ltb (c .distance) (x .distance) (omega arith))
-
-  farther-of : (n : ℕ) → n ≤ x .distance → (f : Bool) → cond f (ltb (c .distance) n) false ≡ true → cond f (comesFirst x c) true ≡ false
-  farther-of n h true e = farther n h (ltb-true (c .distance) n e)
-  farther-of n h false e = absurd (false≢true e)
-
--- ---- the best so far b, and one more x
-
-module _ (b : Best) (x : Candidate) where
-  pub stays : givesWay b x ≡ false → (t : Bool) → foundOf b ≡ looked comesFirst t (foundOf b) x
-  unfolding foundOf givesWay
-  stays e t = stays-of (b .candidate) x (b .found) e t
-
-  pub passed-over : (t : Bool) → t ≡ false → foundOf b ≡ looked comesFirst t (foundOf b) x
-  unfolding looked
-  passed-over t e = ap (λ t. looked comesFirst t (foundOf b) x) (sym e)
-
-  pub takes-over : givesWay b x ≡ true → (t : Bool) → t ≡ true → foundOf (newBest x) ≡ looked comesFirst t (foundOf b) x
-  unfolding foundOf givesWay
-  takes-over e t q = takes-of (b .candidate) x (b .found) e ∙ ap (λ t. looked comesFirst t (foundOf b) x) (sym q)
-
-  pub far-away : (n : ℕ) → n ≤ x .distance → nearerThan b n ≡ true → givesWay b x ≡ false
-  unfolding givesWay nearerThan
-  far-away n h e = farther-of (b .candidate) x n h (b .found) e
+-- n entries are at most those of x, and more than those of the best
+pub farther : (best x : Candidate) (n : ℕ) → n ≤ x .distance → best .distance < n → comesFirst x best ≡ false
+unfolding comesFirst
+farther best x n h l = rw (le-ltb (x .distance) (best .distance) (omega arith), lt-ltb (best .distance) (x .distance) (omega arith))
 
 -- the first words alone tell two sets apart by no more entries than all four
 pub first-at-most : {a b : BitSet} → Words a → Words b → firstOnes a b ≤ differing a b

@@ -1,16 +1,17 @@
 -- The numbers that are still there, looked through one after the other, and rows of tables that fit.
 use Prim.Native.Nat.{ℕ, _+_, _≤_, _<_, _^_}
-use mathlib.Core.Bool.{Bool, true, not}
+use mathlib.Core.Bool.{Bool, true, false, not}
 use mathlib.Core.List.{List, [], _∷_, _++_, map, map-append}
-use mathlib.Core.Option.{Option, none}
+use mathlib.Core.Option.{Option, some}
 use mathlib.Core.Path.{_≡_, refl, sym, ap, _∙_}
 use native.Mathlib.Numerals.{add-one}
 use native.Mathlib.Omega.{arith}
 use lib.Dec.{eqb}
 use lib.ListN.{length, getD, take}
 use lib.Seq.{take-suc}
-use Rattle.lists.specs.Keep.{keep}
+use Rattle.lists.specs.Keep.{keep, keepHead}
 use Rattle.lists.specs.Least.{least}
+use Rattle.lists.proofs.KeepLoop.{keep-snoc}
 use Rattle.merge.specs.Subgroup.{Subgroup}
 use Rattle.merge.specs.Tables.{Mergeable}
 use Rattle.merge.specs.Search.{looked}
@@ -27,9 +28,10 @@ module _ {A : Type 0} (f : ℕ → A) (before : A → A → Bool) (l : List ℕ)
   images-more : (i : ℕ) → i < length l → map f (take (i + 1) l) ≡ map f (take i l) ++ (f (getD l i 0) ∷ [])
   images-more i h = rw (add-one i) (ap (map f) (take-suc l i 0 h) ∙ map-append f (take i l) (getD l i 0 ∷ []))
 
-  pub search-none : none ≡ least before (map f (take 0 l))
+  -- the first alone
+  pub search-one : 0 < length l → some (f (getD l 0 0)) ≡ least before (map f (take 1 l))
   unfolding least
-  search-none = refl
+  search-one h = ap (λ m. least before (map f m)) (sym (take-suc l 0 0 h))
 
   -- number i of the list is looked at
   pub search-more : (i : ℕ) → i < length l → (best next : Option A) → best ≡ least before (map f (take i l))
@@ -41,9 +43,21 @@ module _ {A : Type 0} (f : ℕ → A) (before : A → A → Bool) (l : List ℕ)
 
   -- of those that are looked for
   module _ (q : A → Bool) where
-    pub search-kept-none : none ≡ least before (keep q (map f (take 0 l)))
-    unfolding least keep
-    search-kept-none = refl
+    kept-snoc : (i : ℕ) → i < length l → keep q (map f (take (i + 1) l)) ≡ keep q (map f (take i l)) ++ keepHead (q (f (getD l i 0))) (f (getD l i 0)) []
+    kept-snoc i h = ap (keep q) (images-more i h) ∙ keep-snoc q (map f (take i l)) (f (getD l i 0))
+
+    pub none-kept-yet : keep q (map f (take 0 l)) ≡ []
+    unfolding keep
+    none-kept-yet = refl
+
+    pub none-kept-still : (i : ℕ) → i < length l → keep q (map f (take i l)) ≡ [] → q (f (getD l i 0)) ≡ false → keep q (map f (take (i + 1) l)) ≡ []
+    unfolding keepHead
+    none-kept-still i h none e = kept-snoc i h ∙ rw (none, e)
+
+    pub first-kept : (i : ℕ) → i < length l → keep q (map f (take i l)) ≡ [] → q (f (getD l i 0)) ≡ true
+        → some (f (getD l i 0)) ≡ least before (keep q (map f (take (i + 1) l)))
+    unfolding keepHead least
+    first-kept i h none e = sym (ap (least before) (kept-snoc i h ∙ rw (none, e)))
 
     pub search-kept-more : (i : ℕ) → i < length l → (best next : Option A) → best ≡ least before (keep q (map f (take i l)))
         → next ≡ looked before (q (f (getD l i 0))) best (f (getD l i 0)) → next ≡ least before (keep q (map f (take (i + 1) l)))

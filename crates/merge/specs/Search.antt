@@ -1,13 +1,15 @@
 -- The search for a join: what is kept of a subgroup, the best so far, and one more that is looked at.
 use Prim.Native.Nat.{ℕ, _+_, _*_, _^_, _<_, _≤_}
 use mathlib.Core.Bool.{Bool, true, false, _&&_, cond}
-use mathlib.Core.List.{List}
+use mathlib.Core.List.{List, [], map}
 use mathlib.Core.Option.{Option, none, some}
+use mathlib.Core.Path.{_≡_}
 use lib.Bits.{bitXor}
 use lib.Count.{ones}
 use lib.Dec.{ltb}
 use lib.Ieee.{Float, lt}
-use lib.ListN.{length, getD}
+use lib.ListN.{length, getD, take}
+use Rattle.lists.specs.Keep.{keep}
 use Rattle.lists.specs.Least.{earlier}
 use Rattle.whole.specs.Double.{toF64}
 use Rattle.bitset.specs.Entries.{wordAt, empty, rowOf, differing}
@@ -58,15 +60,6 @@ firstOnes a b = ones (bitXor (wordAt a 0) (wordAt b 0))
 unfoldable pub foundOf : Best → Option Candidate
 foundOf b = cond (b .found) (some (b .candidate)) none
 
--- one more takes its place
-unfoldable pub givesWay : Best → Candidate → Bool
-unfolding comesFirst
-givesWay b x = cond (b .found) (comesFirst x (b .candidate)) true
-
--- it has fewer entries than n
-unfoldable pub nearerThan : Best → ℕ → Bool
-nearerThan b n = cond (b .found) (ltb (b .candidate .distance) n) false
-
 -- The best so far, and one more: passed over unless it is among those that are looked for.
 unfoldable pub looked : {A : Type 0} → (A → A → Bool) → Bool → Option A → A → Option A
 looked before false best x = best
@@ -80,6 +73,12 @@ pub record Row (sizes bits : List ℕ) (i : ℕ) : Type 0 where
   pub has-size : i < length sizes
   pub has-bits : 4 * i + 4 ≤ length bits
   pub exact : getD sizes i 0 ≤ 2 ^ 53
+
+-- number r of a list is the first that seeks; none does where r is the length
+pub record FirstSeeker (threshold : Float) (there sizes : List ℕ) (r : ℕ) : Type 0 where
+  pub within : r ≤ length there
+  pub none-before : keep (seeking threshold) (map (seekerAt sizes) (take r there)) ≡ []
+  pub seeks : r < length there → seeking threshold (seekerAt sizes (getD there r 0)) ≡ true
 
 -- each number of a list has a size of at most 2^53
 pub record Readable (there sizes : List ℕ) : Type 0 where

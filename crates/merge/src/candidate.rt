@@ -1,6 +1,14 @@
 // What a search keeps of a subgroup, and the order that it goes by.
+use crate::tables::size_at;
+use bitset::entries::BitSet;
+use bitset::table::row;
 ghost use mathlib.Core.Path.{_≡_};
-ghost use Rattle.merge.specs.Search.{seeking, comesFirst};
+ghost use mathlib.Core.Bool.{cond};
+ghost use Prim.Native.Nat.{_≤_, _<_, _^_};
+ghost use lib.Dec.{ltb};
+ghost use lib.ListN.{length, getD};
+ghost use Rattle.lists.specs.Least.{earlier};
+ghost use Rattle.merge.specs.Search.{seeking, comesFirst, seekerAt, targetAt, firstOnes, Row};
 
 // A subgroup's number, its size, and how many entries tell it from the seeker: 0 while a seeker is looked for.
 pub struct Candidate {
@@ -10,6 +18,30 @@ pub struct Candidate {
 }
 
 impl Candidate {
+    // Number i where a seeker is looked for.
+    pub fn seeker_at(sizes: &[u64], i: usize) -> Candidate
+        requires { ⌜ (i < length (now sizes)) × (getD (now sizes) i 0 ≤ 2 ^ 53) ⌝ }
+        ensures { λ r. ⌜ r ≡ seekerAt (now (sizes .entry)) i ⌝ }
+    {
+        Candidate {
+            number: i,
+            size: size_at(sizes, i),
+            distance: 0,
+        }
+    }
+
+    // Number i where the target of a seeker with the wanted entries is looked for.
+    pub fn target_at(sizes: &[u64], bits: &[u64], i: usize, wanted: BitSet) -> Candidate
+        requires { ⌜ Row (now sizes) (now bits) i ⌝ }
+        ensures { λ r. ⌜ r ≡ targetAt (now (sizes .entry)) (now (bits .entry)) wanted i ⌝ }
+    {
+        Candidate {
+            number: i,
+            size: size_at(sizes, i),
+            distance: wanted.symmetric_difference_count(row(bits, i)),
+        }
+    }
+
     // 0 < size < threshold: a size of 0 never seeks.
     pub fn seeks(self, threshold: f64) -> bool
         ensures { λ r. ⌜ r ≡ seeking threshold self ⌝ }
@@ -20,22 +52,71 @@ impl Candidate {
         false
     }
 
-    // The fewest entries that tell it from the seeker first, then the smallest size, then the lowest number.
+    // The fewest entries that tell it from the seeker first, then the smallest size, then the lowest number. Most often the other comes first,
+    // which is tested first.
     pub fn comes_before(self, other: Candidate) -> bool
         ensures { λ r. ⌜ r ≡ comesFirst self other ⌝ }
     {
-        if self.distance < other.distance {
-            return true;
-        }
         if other.distance < self.distance {
             return false;
         }
-        if self.size < other.size {
+        if self.distance < other.distance {
             return true;
         }
         if other.size < self.size {
             return false;
         }
+        if self.size < other.size {
+            return true;
+        }
         self.number < other.number
+    }
+
+    // The first seeker, once one more was looked at.
+    pub fn or_seeker(self, x: Candidate, threshold: f64) -> Candidate
+        ensures { λ r. ⌜ r ≡ cond (seeking threshold x) (earlier comesFirst self x) self ⌝ }
+    {
+        if !x.comes_before(self) {
+            return self;
+        }
+        if !x.seeks(threshold) {
+            return self;
+        }
+        x
+    }
+
+    // Whether the first words alone tell another set from the wanted one by more entries than this one has.
+    pub fn is_nearer(self, other: BitSet, wanted: BitSet) -> bool
+        ensures { λ r. ⌜ r ≡ ltb (self .distance) (firstOnes wanted other) ⌝ }
+    {
+        let a = wanted.words;
+        let b = other.words;
+        self.distance < u64::count_ones(a[0] ^ b[0])
+    }
+
+    // The one of the two that comes first.
+    pub fn or_nearer(self, x: Candidate) -> Candidate
+        ensures { λ r. ⌜ r ≡ earlier comesFirst self x ⌝ }
+    {
+        if x.comes_before(self) {
+            return x;
+        }
+        self
+    }
+
+    // The nearest, once number i was looked at.
+    pub fn or_target(self, sizes: &[u64], bits: &[u64], i: usize, wanted: BitSet) -> Candidate
+        requires { ⌜ Row (now sizes) (now bits) i ⌝ }
+        ensures { λ r. ⌜ r ≡ earlier comesFirst self (targetAt (now (sizes .entry)) (now (bits .entry)) wanted i) ⌝ }
+    {
+        let other = row(bits, i);
+        if self.is_nearer(other, wanted) {
+            return self;
+        }
+        self.or_nearer(Candidate {
+            number: i,
+            size: size_at(sizes, i),
+            distance: wanted.symmetric_difference_count(other),
+        })
     }
 }

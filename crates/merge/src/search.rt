@@ -1,19 +1,16 @@
 // The search for the next join: the list of those still there is looked through afresh, with the best so far in a value.
 use crate::candidate::Candidate;
-use crate::tables::size_at;
 use bitset::entries::BitSet;
-use bitset::table::row;
 ghost use mathlib.Core.Path.{_≡_};
-ghost use mathlib.Core.Bool.{true};
 ghost use mathlib.Core.List.{map};
 ghost use mathlib.Core.Option.{none};
 ghost use Prim.Native.Nat.{_*_, _≤_};
 ghost use lib.ListN.{length};
 ghost use Rattle.lists.specs.Keep.{keep};
 ghost use Rattle.lists.specs.Least.{least};
-ghost use Rattle.merge.specs.Search.{seeking, comesFirst, seekerAt, targetAt, firstOnes, foundOf, givesWay, nearerThan, looked, Readable, Row};
+ghost use Rattle.merge.specs.Search.{seeking, comesFirst, seekerAt, targetAt, foundOf, Readable, FirstSeeker};
 
-// The best of those that were looked at, if there is one.
+// The first in the order of those that were looked at, if there is one.
 pub struct Best {
     pub found: bool,
     pub candidate: Candidate,
@@ -32,68 +29,22 @@ impl Best {
             },
         }
     }
+}
 
-    // Whether one more takes the place of the best so far: there is none yet, or it comes before.
-    pub fn gives_way(self, x: Candidate) -> bool
-        ensures { λ r. ⌜ r ≡ givesWay self x ⌝ }
-    {
-        if !self.found {
-            return true;
+// The place of the first number of the list that seeks, and the length of the list if none does.
+fn first_seeker(there: &[u32], sizes: &[u64], threshold: f64) -> usize
+    requires { ⌜ Readable (now there) (now sizes) ⌝ }
+    ensures { λ r. ⌜ FirstSeeker threshold (now (there .entry)) (now (sizes .entry)) r ⌝ }
+{
+    let mut i = 0;
+    while i < there.len() {
+        let x = Candidate::seeker_at(sizes, there[i] as usize);
+        if x.seeks(threshold) {
+            return i;
         }
-        x.comes_before(self.candidate)
+        i = i + 1;
     }
-
-    // The best seeker, once one more was looked at.
-    pub fn or_seeker(self, x: Candidate, threshold: f64) -> Best
-        ensures { λ r. ⌜ foundOf r ≡ looked comesFirst (seeking threshold x) (foundOf self) x ⌝ }
-    {
-        if !self.gives_way(x) {
-            return self;
-        }
-        if !x.seeks(threshold) {
-            return self;
-        }
-        Best {
-            found: true,
-            candidate: x,
-        }
-    }
-
-    // Whether the first words alone tell another set from the wanted one by more entries than the best so far has.
-    pub fn is_nearer(self, other: BitSet, wanted: BitSet) -> bool
-        ensures { λ r. ⌜ r ≡ nearerThan self (firstOnes wanted other) ⌝ }
-    {
-        if !self.found {
-            return false;
-        }
-        let a = wanted.words;
-        let b = other.words;
-        let best = self.candidate;
-        best.distance < u64::count_ones(a[0] ^ b[0])
-    }
-
-    // The best target of a seeker with these entries, once row i was looked at.
-    pub fn or_target(self, sizes: &[u64], bits: &[u64], i: usize, wanted: BitSet) -> Best
-        requires { ⌜ Row (now sizes) (now bits) i ⌝ }
-        ensures { λ r. ⌜ foundOf r ≡ looked comesFirst true (foundOf self) (targetAt (now (sizes .entry)) (now (bits .entry)) wanted i) ⌝ }
-    {
-        let other = row(bits, i);
-        if self.is_nearer(other, wanted) {
-            return self;
-        }
-        let x = Candidate {
-            number: i,
-            size: size_at(sizes, i),
-            distance: wanted.symmetric_difference_count(other),
-        };
-        if !self.gives_way(x) {
-            return self;
-        }
-        Best {
-            found: true,
-            candidate: x,
-        }
-    }
+    i
 }
 
 // The subgroup that seeks: of those listed with 0 < size < threshold, the smallest, then the lowest number.
@@ -101,21 +52,20 @@ pub fn find_seeker(there: &[u32], sizes: &[u64], threshold: f64) -> Best
     requires { ⌜ Readable (now there) (now sizes) ⌝ }
     ensures { λ r. ⌜ foundOf r ≡ least comesFirst (keep (seeking threshold) (map (seekerAt (now (sizes .entry))) (now (there .entry)))) ⌝ }
 {
-    let mut best = Best::nothing();
-    let mut i = 0;
+    let first = first_seeker(there, sizes, threshold);
+    if first == there.len() {
+        return Best::nothing();
+    }
+    let mut best = Candidate::seeker_at(sizes, there[first] as usize);
+    let mut i = first + 1;
     while i < there.len() {
-        let m = there[i] as usize;
-        best = best.or_seeker(
-            Candidate {
-                number: m,
-                size: size_at(sizes, m),
-                distance: 0,
-            },
-            threshold,
-        );
+        best = best.or_seeker(Candidate::seeker_at(sizes, there[i] as usize), threshold);
         i = i + 1;
     }
-    best
+    Best {
+        found: true,
+        candidate: best,
+    }
 }
 
 // The subgroup that it joins: of those listed the nearest.
@@ -123,11 +73,17 @@ pub fn find_target(there: &[u32], sizes: &[u64], bits: &[u64], wanted: BitSet) -
     requires { ⌜ Readable (now there) (now sizes) × (4 * length (now sizes) ≤ length (now bits)) ⌝ }
     ensures { λ r. ⌜ foundOf r ≡ least comesFirst (map (targetAt (now (sizes .entry)) (now (bits .entry)) wanted) (now (there .entry))) ⌝ }
 {
-    let mut best = Best::nothing();
-    let mut i = 0;
+    if there.len() == 0 {
+        return Best::nothing();
+    }
+    let mut best = Candidate::target_at(sizes, bits, there[0] as usize, wanted);
+    let mut i = 1;
     while i < there.len() {
         best = best.or_target(sizes, bits, there[i] as usize, wanted);
         i = i + 1;
     }
-    best
+    Best {
+        found: true,
+        candidate: best,
+    }
 }
