@@ -8,7 +8,7 @@ ghost use lib.ListN.{length};
 ghost use Rattle.records.specs.Chain.{chainOf, dependencies};
 ghost use Rattle.records.specs.Marks.{stored};
 ghost use Rattle.capture.specs.Followed.{unfollowed};
-ghost use Rattle.capture.specs.Walk.{WalkReady, Walked, FollowReady, VisitReady, visited};
+ghost use Rattle.capture.specs.Walk.{markedCount, WalkReady, Walked, FollowReady, VisitReady, visited};
 
 // A module that a chain names: it is marked and put on the list if it is eligible and not marked yet.
 pub fn visit(
@@ -66,6 +66,7 @@ fn follow(
 }
 
 // Marks all that is reached from the modules marked so far, which are the first `tail` of the list. Zero, which ends a chain, counts as followed.
+// Answers how many modules are marked then.
 pub fn walk(
     flags: &[u8],
     first: &[u32],
@@ -75,12 +76,13 @@ pub fn walk(
     queue: &mut [u32],
     followed: &mut [u8],
     tail: usize,
-)
+) -> usize
     requires { ⌜ WalkReady (now flags) (now first) (now dependency) (now next) (length (now flags)) (length (now next) - 1)
         (record { marks = now marks; queue = now queue; tail = tail }) (now followed) ⌝ }
     ensures { λ _. ⌜ Walked (now (flags .entry)) (now (first .entry)) (now (dependency .entry)) (now (next .entry)) (length (now (flags .entry)))
         (length (now (next .entry)) - 1) (now (marks .entry)) (now (marks .exit)) ⌝ }
     ensures { λ _. ⌜ now (followed .exit) ≡ unfollowed ⌝ }
+    ensures { λ r. ⌜ r ≡ markedCount (now (marks .exit)) (length (now (flags .entry))) ⌝ }
 {
     let mut found = tail;
     let mut head = 0;
@@ -101,4 +103,5 @@ pub fn walk(
         head = head + 1;
     }
     forget_all(first, next, &queue[..found], followed);
+    found
 }

@@ -1,4 +1,9 @@
 // The sets of one group turned into chunks, name by name.
+pub mod closed;
+
+use crate::closed::can_close;
+use crate::closed::close_set;
+use crate::closed::copy_flags;
 use bitset::entries::BitSet;
 use emitting::emit::Head;
 use entries_aware::convert_subgroups;
@@ -13,10 +18,9 @@ ghost use Prim.Native.Nat.{_*_, _≤_};
 ghost use lib.ListN.{length};
 ghost use Rattle.capture.specs.Followed.{unfollowed};
 ghost use Rattle.grouping.specs.WorkList.{itemsOfSet};
-ghost use Rattle.running.specs.Turns.{SetTurning, SetTurned};
-ghost use Rattle.names.specs.Turn.{NamesTurning, NamesRoom, NamesTurned};
+ghost use Rattle.names.specs.Turn.{SetOffered, SetTaken, NamesTurning, NamesRoom, NamesTurned};
 
-// One set turned into chunks: an item, or its subgroups.
+// One set turned into chunks: an item, or its subgroups. A set that is one item may lack modules that have a chunk already.
 fn convert_set(
     settings: Settings,
     group: u32,
@@ -37,12 +41,12 @@ fn convert_set(
     size_of: &mut [f64],
     bits_of: &mut [u64],
 ) -> usize
-    requires { ⌜ SetTurning (record {
+    requires { ⌜ SetOffered (record {
       bytes = now (bytes);
       offsets = now (offsets);
       sizes = now (sizes);
       rank = now (rank);
-    }) (now bits) (number .0) at (record {
+    }) (now bits) (settings .«entries_aware») (number .0) at (record {
       chunk-of = now («chunk_of»);
       group-of = now («group_of»);
       name-of = now («name_of»);
@@ -50,12 +54,12 @@ fn convert_set(
       bits-of = now («bits_of»);
     }) (now set) ⌝ }
     requires { ⌜ (length (now set) ≤ n) × (n ≤ 4096) × (3 * n ≤ length (now scratch)) ⌝ }
-    ensures { λ r. ⌜ SetTurned (record {
+    ensures { λ r. ⌜ SetTaken (record {
       bytes = now (bytes .entry);
       offsets = now (offsets .entry);
       sizes = now (sizes .entry);
       rank = now (rank .entry);
-    }) (now (bits .entry)) (now (set .entry))
+    }) (now (bits .entry)) (settings .«entries_aware») (now (set .entry))
         (λ tree places. itemsOfSet (settings .«entries_aware») settings group name tree places) (number .0) at r (record {
           chunk-of = now («chunk_of» .entry);
           group-of = now («group_of» .entry);
@@ -124,7 +128,8 @@ fn convert_set(
     )
 }
 
-// The sets of a group, whose matched modules stand in runs of one name each. The list of a walk stands in the first part of scratch.
+// The sets of a group, whose matched modules stand in runs of one name each. The list of a walk stands in the first part of scratch; walks
+// pass over sets that are closed.
 pub fn convert_names(
     settings: Settings,
     group: u32,
@@ -198,13 +203,16 @@ pub fn convert_names(
     ensures { λ _. ⌜ (length (now (marks .exit)) ≡ length (now (marks .entry))) × (length (now (set .exit)) ≡ length (now (set .entry)))
         × (length (now (scratch .exit)) ≡ length (now (scratch .entry))) × (now (followed .exit) ≡ unfollowed) ⌝ }
 {
+    let closing = can_close(settings);
+    let mut live = [0u8; 4096];
+    copy_flags(flags, &mut live[..n]);
     let mut made = 0;
     let mut from = 0;
     while from < matched.len() {
         let to = run_end(matched, from);
         let count = build_set(
             settings.recursive,
-            flags,
+            &live[..n],
             first,
             dependency,
             next,
@@ -236,6 +244,7 @@ pub fn convert_names(
                 size_of,
                 bits_of,
             );
+        close_set(closing, &set[..count], chunk_of, &mut live[..n]);
         from = to;
     }
     made

@@ -11,9 +11,10 @@ use lib.ListN.{length, getD}
 use Rattle.lists.specs.Keep.{keep}
 use Rattle.lists.specs.Range.{range}
 use Rattle.lists.proofs.Below.{both}
-use Rattle.lists.proofs.KeepTests.{keep-map}
+use Rattle.lists.proofs.KeepTests.{keep-keep, keep-map}
 use Rattle.lists.proofs.Map.{getD-map-below, map-getD-range}
 use Rattle.lists.proofs.Members.{keep-mem, mem-keep, range-mem, mem-range}
+use Rattle.lists.proofs.Pairs.{pairs-keep}
 use Rattle.lists.proofs.Position.{mem-getD, getD-mem}
 use Rattle.lists.proofs.Sort.{Rising, pairs-weaker, pairs-kept, keys-same}
 use Rattle.filter.specs.Filter.{passes}
@@ -185,6 +186,81 @@ module _ (b : Given) (ok : Passed b) (g : ℕ) (h : g < b .variant .g) (name : �
             λ e. absurd (let z = eqb-true (getD marks (moduleAt b p) 0) 1 e in omega arith),
             λ s. absurd (o .1 (subst (λ (d : ℕ). Reach d (moduleAt b p)) (sym depth) (reached-set on (moduleAt b p) .1 s))),
           )
+
+  -- ---- a part of the set, found with other flag bytes
+
+  -- module k is reached from the starts by the flag bytes `live`
+  abbrev pub ReachBy : List ℕ → ℕ → Type 0
+  ReachBy live k =
+      Reached (capture.Eligible live) (capture.Names (b .shared .first) (b .shared .dependency) (b .shared .next) (length (b .shared .next) - 1))
+      (λ m. List·Memᴰ m starts) k
+
+  -- if both reach the same of the modules that pass a test, both sets are the same where it is passed
+  module _ (on : settingsOf b g .recursive ≡ true) (live marks : List ℕ) (bytes : length live ≡ length (b .variant .flags)) (un : ℕ → Bool)
+      (same : (k : ℕ) → un k ≡ true → ReachBy (b .variant .flags) k ↔ ReachBy live k)
+      (x : AllCaptured live (b .shared .first) (b .shared .dependency) (b .shared .next) starts marks) where
+    marked-by : ℕ → Bool
+    marked-by m = eqb (getD marks m 0) 1
+
+    -- a place that is marked is one of the set, among those that pass
+    by-mark : (p : ℕ) → p < count → un (moduleAt b p) ≡ true → marked-by (moduleAt b p) ≡ true ↔ InSet b g name (moduleAt b p)
+    unfolding marked-by
+    by-mark p u e = go (x .each (moduleAt b p) (omega (arith, bytes, flag-bytes b ok, places-mem b (moduleAt b p) (getD-mem (placesOf b) p 0 u) .0)))
+      where
+        k : ℕ
+        k = moduleAt b p
+
+        depth : length (b .shared .next) - 1 ≡ b .shared .d
+        depth = omega (arith, record-tables b ok .nexts)
+
+        in-set : ReachBy live k ↔ InSet b g name k
+        in-set = (
+          λ r. reached-set on k .0 (subst (λ (d : ℕ). Reach d k) depth (same k e .1 r)),
+          λ s. same k e .0 (subst (λ (d : ℕ). Reach d k) (sym depth) (reached-set on k .1 s)),
+        )
+
+        go : ((getD marks k 0 ≡ 1) × ReachBy live k) ⊎ ((getD marks k 0 ≡ 0) × (ReachBy live k → ⊥)) → eqb (getD marks k 0) 1 ≡ true ↔ InSet b g name k
+        go (inl o) = (λ q. in-set .0 (o .1), λ s. eq-eqb (getD marks k 0) 1 (o .0))
+        go (inr o) = (λ q. absurd (let z = eqb-true (getD marks k 0) 1 q in omega arith), λ s. absurd (o .1 (in-set .1 s)))
+
+    pub left-marked : keep un (markedIn marks (placesOf b)) ≡ keep un (modulesAt b places)
+    unfolding markedIn marked-by
+    left-marked =
+        ap (λ (l : List ℕ). keep un (keep marked-by l)) (sym (map-getD-range (placesOf b) 0))
+        ∙ ap (keep un) (keep-map marked-by (moduleAt b) (range 0 count))
+        ∙ keep-map un (moduleAt b) (keep (λ p. marked-by (moduleAt b p)) (range 0 count))
+        ∙ ap (map (moduleAt b)) (keep-keep (λ p. un (moduleAt b p)) (λ p. marked-by (moduleAt b p)) (range 0 count) ∙ by-places)
+        ∙ sym (keep-map un (moduleAt b) places)
+      where
+        both-pass : ℕ → Bool
+        both-pass p = marked-by (moduleAt b p) && un (moduleAt b p)
+
+        placed : Placed (length (treeOf b)) places
+        placed = set-placed (settingsOf b g) g (treeOf b) name
+
+        union : SetIsUnion b g name
+        union = set-captures b (ok .records) g h name
+
+        there : (p : ℕ) → List·Memᴰ p (keep both-pass (range 0 count)) → List·Memᴰ p (keep (λ p. un (moduleAt b p)) places)
+        there p m =
+            let o = keep-mem both-pass (range 0 count) p m in
+            let r = range-mem 0 count p (o .0) in
+            let u : p < count = omega arith in
+            let t = both (marked-by (moduleAt b p)) (un (moduleAt b p)) (o .1) in
+            mem-keep (λ p. un (moduleAt b p)) p (union .by-place p u .1 (by-mark p u (t .1) .0 (t .0))) (t .1)
+
+        back : (p : ℕ) → List·Memᴰ p (keep (λ p. un (moduleAt b p)) places) → List·Memᴰ p (keep both-pass (range 0 count))
+        back p m =
+            let o = keep-mem (λ p. un (moduleAt b p)) places p m in
+            let u : p < count = omega (arith, tree-length b, placed .below p (o .0)) in
+            mem-keep both-pass p (mem-range 0 count p (omega arith) (omega arith))
+            (ap₂ _&&_ (by-mark p u (o .1) .1 (union .by-place p u .0 (o .0))) (o .1))
+
+        by-places : keep both-pass (range 0 count) ≡ keep (λ p. un (moduleAt b p)) places
+        by-places =
+            keys-same (λ n. n) (keep both-pass (range 0 count)) (keep (λ p. un (moduleAt b p)) places)
+            (pairs-kept (λ x y. ltb x y ≡ true) both-pass 0 count (λ x y l u e f. lt-ltb x y l))
+            (pairs-keep (λ p. un (moduleAt b p)) (pairs-weaker (λ x y l. lt-ltb x y l) (placed .ascend))) there back
 
   -- ---- the set
 

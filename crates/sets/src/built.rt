@@ -60,7 +60,7 @@ pub fn build_set(
     if !recursive {
         return count;
     }
-    capture_all(
+    let found = capture_all(
         flags,
         first,
         dependency,
@@ -70,5 +70,8 @@ pub fn build_set(
         queue,
         followed,
     );
+    if found == 0 {
+        return 0;
+    }
     gather_set(order, marks, set)
 }

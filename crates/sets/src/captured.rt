@@ -8,7 +8,7 @@ ghost use mathlib.Core.Path.{_≡_};
 ghost use Prim.Native.Nat.{_-_};
 ghost use lib.ListN.{length};
 ghost use Rattle.capture.specs.Followed.{unfollowed};
-ghost use Rattle.capture.specs.Walk.{visited};
+ghost use Rattle.capture.specs.Walk.{markedCount, visited};
 ghost use Rattle.sets.specs.Captured.{StartsReady, AllReady, AllCaptured};
 
 // Marks each start and puts it on the list. Answers how many are on it.
@@ -26,7 +26,7 @@ fn mark_starts(flags: &[u8], starts: &[u32], marks: &mut [u8], queue: &mut [u32]
     tail
 }
 
-// Marks all that is reached from the starts.
+// Marks all that is reached from the starts. Answers how many modules are marked then.
 pub fn capture_all(
     flags: &[u8],
     first: &[u32],
@@ -36,13 +36,14 @@ pub fn capture_all(
     marks: &mut [u8],
     queue: &mut [u32],
     followed: &mut [u8],
-)
+) -> usize
     requires { ⌜ AllReady (now flags) (now first) (now dependency) (now next) (now starts) (now marks) (now queue) (now followed) ⌝ }
     ensures { λ _. ⌜ AllCaptured (now (flags .entry)) (now (first .entry)) (now (dependency .entry)) (now (next .entry))
         (now (starts .entry)) (now (marks .exit)) ⌝ }
     ensures { λ _. ⌜ now (followed .exit) ≡ unfollowed ⌝ }
+    ensures { λ r. ⌜ r ≡ markedCount (now (marks .exit)) (length (now (flags .entry))) ⌝ }
 {
     clear_bytes(marks);
     let tail = mark_starts(flags, starts, marks, queue);
-    walk(flags, first, dependency, next, marks, queue, followed, tail);
+    walk(flags, first, dependency, next, marks, queue, followed, tail)
 }

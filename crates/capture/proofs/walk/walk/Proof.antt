@@ -125,7 +125,7 @@ returns c =
         marked = walk-ends (a .flags .now) (a .first .now) (a .dependency .now) (a .next .now) _ _ _ _ _ p h;
         same-length = p .state .mark-bytes ∙ sym (s .pre .state .mark-bytes);
       },
-      c .before .before .forget-all .ensures,
+      (c .before .before .forget-all .ensures, p .state .count),
     )
 
 pub walk-spec : {M : Type 1} → statement M

@@ -53,7 +53,7 @@ returns c =
     let walked = c .before .before .before .before .before .before .walk .ensures in (
       starts-captured (a .flags .now) (a .queue .now) _ _ (cleared k) (s .pre .room) (a .starts .now) (s .pre .starts-in)
           visits (a .first .now) (a .dependency .now) (a .next .now) _ (walked .0 .marked),
-      walked .1,
+      (walked .1 .0, walked .1 .1),
     )
 
 pub capture-all-spec : {M : Type 1} → statement M
