@@ -82,7 +82,7 @@ fn join_all(
     }
 }
 
-// The merge in place: sizes and bits are those of the subgroups on entry, and the numbers are written.
+// The merge in place: sizes and bits are those of the subgroups on entry, and the numbers are written. A list of few numbers is cleared sooner.
 pub fn merge_in_place(numbers: &mut [u32], sizes: &mut [u64], bits: &mut [u64], threshold: f64)
     requires { ⌜ Mergeable (now numbers) (now sizes) (now bits) ⌝ }
     ensures { λ _. ⌜ Final (length (now (numbers .entry))) (mergeOf (length (now (numbers .entry))) (now (sizes .entry)) (now (bits .entry)) threshold) (now (numbers .exit)) (now (sizes .exit)) (now (bits .exit)) ⌝ }
@@ -93,6 +93,11 @@ pub fn merge_in_place(numbers: &mut [u32], sizes: &mut [u64], bits: &mut [u64], 
         return;
     }
     if 0.0 < threshold {
+        if count <= 64 {
+            let mut few = [0u32; 64];
+            join_all(numbers, sizes, bits, &mut few[..count], threshold);
+            return;
+        }
         let mut there = [0u32; 4096];
         join_all(numbers, sizes, bits, &mut there[..count], threshold);
     }

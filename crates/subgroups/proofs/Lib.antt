@@ -1,5 +1,6 @@
 -- What the loops need, and the laws.
 pub mod Numbers
+pub mod Chains
 pub mod OneMore
 pub mod Entering
 pub mod KindSizes

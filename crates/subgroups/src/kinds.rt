@@ -6,9 +6,10 @@ use merge::tables::store;
 ghost use mathlib.Core.Path.{_≡_};
 ghost use mathlib.Core.List.{[], _∷_, _++_};
 ghost use Prim.Native.Nat.{_+_, _*_, _^_, _≤_, _<_};
-ghost use lib.ListN.{length, getD, take, set};
+ghost use lib.ListN.{length, getD, take, set, replicate};
 ghost use Rattle.grouping.specs.Subgroups.{sameBits, kindNumber};
 ghost use Rattle.subgroups.specs.Kinds.{rowsOf};
+ghost use Rattle.subgroups.specs.Buckets.{bucketCount, bucketOf, Chained, ChainRoom, Pushed};
 ghost use Rattle.subgroups.specs.Finding.{Members, KindRoom, KindFits, Entered, KindsFound};
 
 // Equal entry bits.
@@ -29,19 +30,46 @@ pub fn same_bits(a: BitSet, b: BitSet) -> bool
     x[3] == y[3]
 }
 
-// The number of the first kind that has these bits, and the count of kinds if none has.
-pub fn find_kind(kind_bits: &[u64], count: usize, bits: BitSet) -> usize
-    requires { ⌜ 4 * count ≤ length (now «kind_bits») ⌝ }
+// The bucket of these bits. Only the way that a search takes goes by it, and no answer.
+pub fn bucket_of(bits: BitSet) -> usize
+    ensures { λ r. ⌜ r ≡ bucketOf bits ⌝ }
+{
+    let w = bits.words;
+    let mixed = w[0] % 509 + w[1] % 509 * 5 + w[2] % 509 * 11 + w[3] % 509 * 17;
+    (mixed % 509) as usize
+}
+
+// The number of the kind that has these bits, and the count of kinds if none has. It is looked for in the bucket of the bits, from the last kind on;
+// heads and links are numbers plus 1.
+pub fn find_kind(
+    kind_bits: &[u64],
+    heads: &[u32],
+    chain: &[u32],
+    count: usize,
+    bits: BitSet,
+) -> usize
+    requires { ⌜ (4 * count ≤ length (now «kind_bits»)) × Chained (now «kind_bits») count (now heads) (now chain) × ChainRoom count (now heads) (now chain) ⌝ }
     ensures { λ r. ⌜ r ≡ kindNumber 0 (rowsOf (now («kind_bits» .entry)) count) bits ⌝ }
 {
-    let mut i = 0;
-    while i < count {
-        if same_bits(row(kind_bits, i), bits) {
-            return i;
+    let bucket = bucket_of(bits);
+    let mut at = heads[bucket] as usize;
+    while 0 < at {
+        let kind = at - 1;
+        if same_bits(row(kind_bits, kind), bits) {
+            return kind;
         }
-        i = i + 1;
+        at = chain[kind] as usize;
     }
     count
+}
+
+// Puts the next kind first in its bucket.
+fn push_kind(heads: &mut [u32], chain: &mut [u32], bucket: usize, count: usize)
+    requires { ⌜ (bucket < length (now heads)) × (count < length (now chain)) × (count < 4096) ⌝ }
+    ensures { λ _. ⌜ Pushed bucket count (now (heads .entry)) (now (chain .entry)) (now (heads .exit)) (now (chain .exit)) ⌝ }
+{
+    chain[count] = heads[bucket];
+    heads[bucket] = (count + 1) as u32;
 }
 
 // The kind of some bits, and the count of kinds once it is among them.
@@ -51,12 +79,20 @@ pub struct Numbered {
 }
 
 // The kind of these bits: one that is there, or a new one of size 0 after the others.
-fn enter_kind(kind_sizes: &mut [u64], kind_bits: &mut [u64], count: usize, bits: BitSet) -> Numbered
-    requires { ⌜ KindFits count bits (now «kind_sizes») (now «kind_bits») ⌝ }
+fn enter_kind(
+    kind_sizes: &mut [u64],
+    kind_bits: &mut [u64],
+    heads: &mut [u32],
+    chain: &mut [u32],
+    count: usize,
+    bits: BitSet,
+) -> Numbered
+    requires { ⌜ KindFits count bits (now «kind_sizes») (now «kind_bits») × Chained (now «kind_bits») count (now heads) (now chain)
+        × ChainRoom (count + 1) (now heads) (now chain) × (count < 4096) ⌝ }
     ensures { λ r. ⌜ Entered count bits (now («kind_sizes» .entry)) (now («kind_bits» .entry)) (r .kind) (r .count)
-        (now («kind_sizes» .exit)) (now («kind_bits» .exit)) ⌝ }
+        (now («kind_sizes» .exit)) (now («kind_bits» .exit)) × Chained (now («kind_bits» .exit)) (r .count) (now (heads .exit)) (now (chain .exit)) ⌝ }
 {
-    let kind = find_kind(kind_bits, count, bits);
+    let kind = find_kind(kind_bits, heads, chain, count, bits);
     if kind < count {
         return Numbered { kind, count };
     }
@@ -69,6 +105,7 @@ fn enter_kind(kind_sizes: &mut [u64], kind_bits: &mut [u64], count: usize, bits:
             bits,
         },
     );
+    push_kind(heads, chain, bucket_of(bits), count);
     Numbered {
         kind,
         count: count + 1,
@@ -83,7 +120,8 @@ fn add_to_kind(kind_sizes: &mut [u64], kind: usize, size: u64)
     kind_sizes[kind] = kind_sizes[kind] + size;
 }
 
-// Finds the kinds of the modules of a set, numbered by first appearance, and the size of each. Answers how many there are.
+// Finds the kinds of the modules of a set, numbered by first appearance, and the size of each. Answers how many there are. The heads of the buckets
+// are zeros on entry.
 pub fn find_kinds(
     bits: &[u64],
     sizes: &[u64],
@@ -91,8 +129,11 @@ pub fn find_kinds(
     kind_of: &mut [u32],
     kind_sizes: &mut [u64],
     kind_bits: &mut [u64],
+    heads: &mut [u32],
+    chain: &mut [u32],
 ) -> usize
-    requires { ⌜ Members (now bits) (now sizes) (now set) × KindRoom (now set) (now «kind_of») (now «kind_sizes») (now «kind_bits») ⌝ }
+    requires { ⌜ Members (now bits) (now sizes) (now set) × KindRoom (now set) (now «kind_of») (now «kind_sizes») (now «kind_bits»)
+        × (now heads ≡ replicate bucketCount 0) × (length (now set) ≤ length (now chain)) ⌝ }
     ensures { λ r. ⌜ KindsFound (now (bits .entry)) (now (sizes .entry)) (now (set .entry)) r
         (now («kind_of» .exit)) (now («kind_sizes» .exit)) (now («kind_bits» .exit)) ⌝ }
 {
@@ -100,7 +141,7 @@ pub fn find_kinds(
     let mut i = 0;
     while i < set.len() {
         let m = set[i] as usize;
-        let found = enter_kind(kind_sizes, kind_bits, count, row(bits, m));
+        let found = enter_kind(kind_sizes, kind_bits, heads, chain, count, row(bits, m));
         count = found.count;
         kind_of[i] = found.kind as u32;
         add_to_kind(kind_sizes, found.kind, sizes[m]);

@@ -9,7 +9,8 @@ ghost use Rattle.subgroups.specs.Finding.{Members, KindRoom};
 ghost use Rattle.subgroups.specs.Merged.{DivisionRoom, Processed};
 
 // Divides an entries-aware set by equal entry bits, merges the subgroups, and lists the positions by the subgroup that each ends in.
-// Answers how many subgroups there were before the merge.
+// Answers how many subgroups there were before the merge. Final numbers are written by the merge; before it their table holds the links between kinds
+// of one bucket.
 pub fn process_entries_aware_group(
     bits: &[u64],
     sizes: &[u64],
@@ -28,7 +29,17 @@ pub fn process_entries_aware_group(
     ensures { λ r. ⌜ Processed (now (bits .entry)) (now (sizes .entry)) (now (set .entry)) threshold r
         (now (finals .exit)) (now («kind_sizes» .exit)) (now («kind_bits» .exit)) (now (order .exit)) ⌝ }
 {
-    let count = find_kinds(bits, sizes, set, kind_of, kind_sizes, kind_bits);
+    let mut heads = [0u32; 509];
+    let count = find_kinds(
+        bits,
+        sizes,
+        set,
+        kind_of,
+        kind_sizes,
+        kind_bits,
+        &mut heads,
+        finals,
+    );
     merge_in_place(
         &mut finals[..count],
         &mut kind_sizes[..count],
