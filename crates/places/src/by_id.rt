@@ -1,7 +1,6 @@
 // Ranks of the modules among their ids, and refusal 4.
-use ids::order::id_before;
-use ids::parts::id_at;
 use idsort::rounds::sort_by_id;
+use idsort::shared::comes_before;
 use index::ModuleIdx;
 ghost use mathlib.Core.Path.{_≡_};
 ghost use Prim.Native.Nat.{_+_, _<_};
@@ -14,9 +13,9 @@ fn tied_at(bytes: &[u8], offsets: &[u32], list: &[u32], i: usize) -> bool
     requires { ⌜ Named (now bytes) (now offsets) (now list) × (i + 1 < length (now list)) ⌝ }
     ensures { λ r. ⌜ r ≡ tiedAt (now (bytes .entry)) (now (offsets .entry)) (now (list .entry)) i ⌝ }
 {
-    let lhs = id_at(bytes, offsets, ModuleIdx(list[i]));
-    let rhs = id_at(bytes, offsets, ModuleIdx(list[i + 1]));
-    !id_before(lhs, rhs)
+    let lhs = list[i];
+    let rhs = list[i + 1];
+    !comes_before(bytes, offsets, ModuleIdx(lhs), ModuleIdx(rhs), 0)
 }
 
 // Whether two neighbours of a list do not rise. In id order such neighbours share an id.
@@ -65,12 +64,16 @@ fn rank_over(
     false
 }
 
-// The same, with an area of its own.
+// The same, with an area of its own. Few modules get a short one, which costs less.
 pub fn rank_by_id(bytes: &[u8], offsets: &[u32], list: &mut [u32], rank: &mut [u32]) -> bool
     requires { ⌜ Rankable (now bytes) (now offsets) (now list) (now rank) ⌝ }
     ensures { λ r. ⌜ RankedById (now (bytes .entry)) (now (offsets .entry)) (now (list .entry)) r (now (rank .entry)) (now (rank .exit)) ⌝ }
 {
     let n = list.len();
+    if n <= 1024 {
+        let mut spare = [0u32; 1024];
+        return rank_over(bytes, offsets, list, rank, &mut spare[..n]);
+    }
     let mut spare = [0u32; 4096];
     rank_over(bytes, offsets, list, rank, &mut spare[..n])
 }
