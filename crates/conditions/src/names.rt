@@ -52,11 +52,15 @@ fn count_rows(answers: &[u32], seen: &mut [u8], n: usize, g: usize) -> usize
     count
 }
 
-// P, of answers that refusals 1, 2 and 10 leave.
+// P, of answers that refusals 1, 2 and 10 leave. Few names get a short table, which costs less.
 pub fn count_pairs(answers: &[u32], n: usize, g: usize, k: usize) -> usize
     requires { ⌜ AnswersWithin (now answers) n g k ⌝ }
     ensures { λ r. ⌜ PairsCounted (now (answers .entry)) n g k r ⌝ }
 {
+    if k <= 4096 {
+        let mut seen = [0u8; 4096];
+        return count_rows(answers, &mut seen[..k], n, g);
+    }
     let mut seen = [0u8; 65536];
     count_rows(answers, &mut seen[..k], n, g)
 }
