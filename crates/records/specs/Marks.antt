@@ -4,8 +4,13 @@ use mathlib.Core.Bool.{true}
 use mathlib.Core.List.{List, [], _∷_}
 use mathlib.Core.Logic.{_⊎_}
 use mathlib.Core.Path.{_≡_}
-use lib.ListN.{length, getD, set}
+use lib.ListN.{length, getD, replicate, set}
 use Rattle.records.specs.Chain.{ended}
+
+-- a byte for each of d records and for zero, none of them marked
+pub record Unmarked (marks : List ℕ) (d : ℕ) : Type 0 where
+  pub room : d < length marks
+  pub clear : marks ≡ replicate (length marks) 0
 
 -- the same byte stored for each record of a list
 unfoldable pub stored : ℕ → List ℕ → List ℕ → List ℕ

@@ -4,7 +4,7 @@ ghost use mathlib.Core.Bool.{false};
 ghost use Prim.Native.Nat.{_+_, _≤_};
 ghost use lib.ListN.{length};
 ghost use Rattle.records.specs.Chain.{chainFrom};
-ghost use Rattle.records.specs.Marks.{stored, KnowReady};
+ghost use Rattle.records.specs.Marks.{stored, Unmarked, KnowReady};
 ghost use Rattle.records.specs.Bad.{badFirst, badRecord, badChain, badRecords, RecordTables, ChainTables};
 
 // A first record above d.
@@ -54,11 +54,10 @@ fn know_chain(next: &[u32], known: &mut [u8], d: usize, from: usize)
 
 // A chain without its zero within d records. The first bad chain leaves both loops. A chain is gone along only up to a record that is known to
 // end, as zero is from the start, so that chains which share records cost no more than their records.
-fn bad_chain(first: &[u32], next: &[u32], n: usize, d: usize) -> bool
-    requires { ⌜ ChainTables (now first) (now next) n d ⌝ }
+fn bad_chain(first: &[u32], next: &[u32], n: usize, d: usize, known: &mut [u8]) -> bool
+    requires { ⌜ ChainTables (now first) (now next) n d × Unmarked (now known) d ⌝ }
     ensures { λ r. ⌜ r ≡ badChain (now (first .entry)) (now (next .entry)) n d ⌝ }
 {
-    let mut known = [0u8; 65536];
     known[0] = 1;
     let mut bad = false;
     let mut m = 0;
@@ -74,10 +73,23 @@ fn bad_chain(first: &[u32], next: &[u32], n: usize, d: usize) -> bool
             left = left - 1;
             r = next[r] as usize;
         }
-        know_chain(next, &mut known, d, start);
+        know_chain(next, known, d, start);
         m = m + 1;
     }
     bad
+}
+
+// The same, with marks of its own. Few records get a short table, which costs less.
+fn any_bad_chain(first: &[u32], next: &[u32], n: usize, d: usize) -> bool
+    requires { ⌜ ChainTables (now first) (now next) n d ⌝ }
+    ensures { λ r. ⌜ r ≡ badChain (now (first .entry)) (now (next .entry)) n d ⌝ }
+{
+    if d < 4096 {
+        let mut known = [0u8; 4096];
+        return bad_chain(first, next, n, d, &mut known);
+    }
+    let mut known = [0u8; 65536];
+    bad_chain(first, next, n, d, &mut known)
 }
 
 // Refusal 7.
@@ -91,5 +103,5 @@ pub fn bad_records(first: &[u32], dependency: &[u32], next: &[u32], n: usize, d:
     if bad_record(dependency, next, n, d) {
         return true;
     }
-    bad_chain(first, next, n, d)
+    any_bad_chain(first, next, n, d)
 }

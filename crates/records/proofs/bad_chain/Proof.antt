@@ -2,12 +2,13 @@
 -- known record. The inner one: the chain from `start` has its zero within some records more just where the rest of it, from record r on, has.
 use Prim.Native.Nat.{ℕ, _≤_, _<_, _-_}
 use mathlib.Core.Bool.{true, false, not}
+use mathlib.Core.List.{List}
 use mathlib.Core.Path.{_≡_, refl, sym, ap, _∙_, subst}
 use native.Mathlib.Nat.{not-suc-le-zero}
 use native.Mathlib.Omega.{arith}
 use mir.Facts.{fits-32-64}
 use borrow.Author.Count.{below-more}
-use lib.ListN.{length, getD, replicate, length-set, length-replicate}
+use lib.ListN.{length, getD, set, length-set}
 use Rattle.lists.proofs.Below.{any-none, any-some}
 use Rattle.records.specs.Bad.{badChain}
 use Rattle.records.specs.Chain.{ended}
@@ -26,67 +27,57 @@ abbrev μ-loop : tie.MeasureT-loop
 
 abbrev Inv-modules : tie.InvT-modules
 Inv-modules first next n d known₀ bad₀ m₀ known bad m =
-    (bad ≡ false) × (m ≤ n) × ((k : ℕ) → k < m → not (ended next d (getD first k 0)) ≡ false) × Known next d known × (length known ≡ 65536)
+    (bad ≡ false) × (m ≤ n) × ((k : ℕ) → k < m → not (ended next d (getD first k 0)) ≡ false) × Known next d known × (length known ≡ length known₀)
 
 abbrev μ-modules : tie.MeasureT-modules
 μ-modules first next n d known₀ bad₀ m₀ known bad m = n - m
 
 -- the chain was left at a record that is known to end, so it ends
-chain-ends : (a : tie.After-loop Inv-loop μ-loop Inv-modules μ-modules) →
-    let s = a .before .before .before .before .before .before .before .args in
-    ended (s .next .now) (s .d) (getD (s .first .now) (a .before .before .before .before .modules .m) 0) ≡ true
-chain-ends a =
-    let s = a .before .before .before .before .before .before .before in
-    let o = a .before .before .before .before .modules in
-    let l = a .before .loop in
-    let known = record-marked (l .r) (o .inv .3 .marks) (a .loop-test .left) in
-    let start-in = s .pre .first-in (o .m) (omega (arith, a .before .before .before .modules-test .taken)) in
-    along-known (s .args .next .now) (s .args .d) (s .pre .next-in) _ (l .left) (l .r) (l .inv .3) start-in (o .inv .3 .ends (l .r) (l .inv .1) known)
+left-ends : (next : List ℕ) (d : ℕ) → ((r : ℕ) → 1 ≤ r → r ≤ d → getD next r 0 ≤ d) → {known : List ℕ} (start left r : ℕ) → Known next d known
+    → Along next d start left r → r ≤ d → start ≤ d → (getD known r 0 ≡ 0 → ⊥) → ended next d start ≡ true
+left-ends next d next-in start left r p along r-in start-in marked =
+    along-known next d next-in start left r along start-in (p .ends r r-in (record-marked r (p .marks) marked))
 
-array-write-known : tie.Need-array-write-known Inv-loop μ-loop Inv-modules μ-modules
-array-write-known c = omega arith
+slice-write-known : tie.Need-slice-write-known Inv-loop μ-loop Inv-modules μ-modules
+slice-write-known c = omega (arith, c .before .before .before .pre .1 .room)
 
 modules-holds : tie.Need-modules-holds Inv-loop μ-loop Inv-modules μ-modules
 modules-holds c =
-    let s = c .before .before in
-    let h : s .args .d < 65536 = omega (arith, s .pre .few) in (
+    let s = c .before .before .before in
+    let marked = known-none (s .args .next .now) (s .args .d) (length (s .args .known .now)) (s .pre .1 .room) in (
       refl,
       omega arith,
       λ k l. absurd (not-suc-le-zero l),
-      known-none (s .args .next .now) (s .args .d) 65536 h,
-      length-set (replicate {A = ℕ} 65536 0) 0 1 ∙ length-replicate {A = ℕ} 65536 0,
+      subst (λ (l : List ℕ). Known (s .args .next .now) (s .args .d) (set l 0 1)) (sym (s .pre .1 .clear)) marked,
+      refl,
     )
 
 mul-start : tie.Need-mul-start Inv-loop μ-loop Inv-modules μ-modules
-mul-start c = omega (arith, c .before .before .before .before .pre .firsts)
+mul-start c = omega (arith, c .before .before .before .before .before .pre .0 .firsts)
 
 shared-slice-read-start : tie.Need-shared-slice-read-start Inv-loop μ-loop Inv-modules μ-modules
-shared-slice-read-start c = omega (arith, c .before .before .before .before .before .pre .firsts)
+shared-slice-read-start c = omega (arith, c .before .before .before .before .before .before .pre .0 .firsts)
 
 cast-start : tie.Need-cast-start Inv-loop μ-loop Inv-modules μ-modules
 cast-start c = fits-32-64 (c .shared-slice-known3 .given _)
 
 loop-holds : tie.Need-loop-holds Inv-loop μ-loop Inv-modules μ-modules
 loop-holds c =
-    let s = c .before .before .before .before .before in
+    let s = c .before .before .before .before .before .before in
     let o = c .before .before .modules in
-    (o .inv .0, s .pre .first-in (o .m) (omega arith), omega arith, along-start (s .args .next .now) (s .args .d) _)
+    (o .inv .0, s .pre .0 .first-in (o .m) (omega arith), omega arith, along-start (s .args .next .now) (s .args .d) _)
 
-array-read-loop : tie.Need-array-read-loop Inv-loop μ-loop Inv-modules μ-modules
-array-read-loop c =
-    let o = c .before .before .before .modules .inv in
-    omega (arith, c .loop .inv .1, o .4, c .before .before .before .before .before .before .pre .few)
+slice-read-if1 : tie.Need-slice-read-if1 Inv-loop μ-loop Inv-modules μ-modules
+slice-read-if1 c = omega (arith, c .before .loop .inv .1, c .before .before .before .before .modules .inv .3 .marks .room)
 
 sub-left : tie.Need-sub-left Inv-loop μ-loop Inv-modules μ-modules
 sub-left c = omega arith
 
 mul-r : tie.Need-mul-r Inv-loop μ-loop Inv-modules μ-modules
-mul-r c = omega (arith, c .before .before .loop .inv .1, c .before .before .before .before .before .before .before .before .pre .few)
+mul-r c = omega (arith, c .before .before .before .loop .inv .1, c .before .before .before .before .before .before .before .before .before .before .pre .0 .few)
 
 shared-slice-read-r : tie.Need-shared-slice-read-r Inv-loop μ-loop Inv-modules μ-modules
-shared-slice-read-r c =
-    let s = c .before .before .before .before .before .before .before .before .before in
-    omega (arith, c .before .before .before .loop .inv .1, s .pre .nexts)
+shared-slice-read-r c = omega (arith, c .before .before .before .before .loop .inv .1, c .before .before .before .before .before .before .before .before .before .before .before .pre .0 .nexts)
 
 cast-r : tie.Need-cast-r Inv-loop μ-loop Inv-modules μ-modules
 cast-r c = fits-32-64 (c .shared-slice-known4 .given _)
@@ -96,69 +87,72 @@ loop-less c = omega arith
 
 loop-again : tie.Need-loop-again Inv-loop μ-loop Inv-modules μ-modules
 loop-again c =
-    let s = c .before .before .before .before .before .before .before .before .before in
-    let l = c .before .before .before .loop in
-    let some = unmarked-some (l .r) (c .before .before .before .before .before .before .modules .inv .3 .marks) (c .before .before .loop-test .taken) in (
+    let s = c .before .before .before .before .before .before .before .before .before .before .before in
+    let l = c .before .before .before .before .loop in
+    let some = unmarked-some (l .r) (c .before .before .before .before .before .before .before .modules .inv .3 .marks) (c .before .before .if1 .taken) in (
       l .inv .0,
-      s .pre .next-in (l .r) (omega (arith, some)) (l .inv .1),
+      s .pre .0 .next-in (l .r) (omega (arith, some)) (l .inv .1),
       omega (arith, l .inv .2),
-      along-next (s .args .next .now) (s .args .d) _ (l .left) (l .r) (l .inv .3) (c .before .if1 .left) (l .inv .2) some,
+      along-next (s .args .next .now) (s .args .d) _ (l .left) (l .r) (l .inv .3) (c .before .if2 .left) (l .inv .2) some,
     )
-
-slice-aggregate-know-chain :
-    tie.Need-slice-aggregate-know-chain Inv-loop μ-loop Inv-modules μ-modules
-slice-aggregate-know-chain c = sym (c .before .before .before .before .before .modules .inv .4)
 
 know-chain-requires : tie.Need-know-chain-requires Inv-loop μ-loop Inv-modules μ-modules
 know-chain-requires c κs =
-    let s = c .before .before .before .before .before .before .before .before in
-    let o = c .before .before .before .before .before .modules in
+    let s = c .before .before .before .before .before .before .before .before .before .before in
+    let o = c .before .before .before .before .before .before .modules in
+    let l = c .before .before .before .loop in
+    let start-in = s .pre .0 .first-in (o .m) (omega (arith, c .before .before .before .before .before .modules-test .taken)) in
     record {
-      within = omega (arith, s .pre .nexts);
-      next-in = s .pre .next-in;
+      within = omega (arith, s .pre .0 .nexts);
+      next-in = s .pre .0 .next-in;
       marks = o .inv .3 .marks;
-      from-in = s .pre .first-in (o .m) (omega (arith, c .before .before .before .before .modules-test .taken));
-      ends = chain-ends (c .before);
+      from-in = start-in;
+      ends = left-ends (s .args .next .now) (s .args .d) (s .pre .0 .next-in) _ (l .left) (l .r) (o .inv .3) (l .inv .3) (l .inv .1) start-in (c .before .if1 .left);
     }
 
 add-m : tie.Need-add-m Inv-loop μ-loop Inv-modules μ-modules
-add-m c =
-    let s = c .before .before .before .before .before .before .before .before .before .before in
-    omega (arith, c .before .before .before .before .before .before .modules-test .taken, s .fits)
+add-m c = omega (arith, c .before .before .before .before .before .before .before .before .modules-test .taken, c .before .before .before .before .before .before .before .before .before .before .before .before .before .fits)
 
 modules-less : tie.Need-modules-less Inv-loop μ-loop Inv-modules μ-modules
-modules-less c = omega (arith, c .before .before .before .before .before .before .modules-test .taken)
+modules-less c = omega (arith, c .before .before .before .before .before .before .before .before .modules-test .taken)
 
 modules-again : tie.Need-modules-again Inv-loop μ-loop Inv-modules μ-modules
 modules-again c =
-    let s = c .before .before .before .before .before .before .before .before .before .before in
-    let o = c .before .before .before .before .before .before .before .modules in
-    let start-in = s .pre .first-in (o .m) (omega (arith, c .before .before .before .before .before .before .modules-test .taken)) in
-    let ends = chain-ends (c .before .before .before) in (
-      c .before .before .before .before .loop .inv .0,
-      omega (arith, c .before .before .before .before .before .before .modules-test .taken),
+    let s = c .before .before .before .before .before .before .before .before .before .before .before .before .before in
+    let o = c .before .before .before .before .before .before .before .before .before .modules in
+    let l = c .before .before .before .before .before .before .loop in
+    let start-in = s .pre .0 .first-in (o .m) (omega (arith, c .before .before .before .before .before .before .before .before .modules-test .taken)) in
+    let ends = left-ends (s .args .next .now) (s .args .d) (s .pre .0 .next-in) _ (l .left) (l .r) (o .inv .3) (l .inv .3) (l .inv .1) start-in (c .before .before .before .before .if1 .left) in (
+      l .inv .0,
+      omega (arith, c .before .before .before .before .before .before .before .before .modules-test .taken),
       below-more (λ k. not (ended (s .args .next .now) (s .args .d) (getD (s .args .first .now) k 0)) ≡ false) (o .m) (o .inv .2) (ap not ends),
-      subst (Known (s .args .next .now) (s .args .d)) (sym (c .before .know-chain .ensures))
-          (known-more (s .args .next .now) (s .args .d) (s .pre .next-in) (o .known) (o .inv .3) _ start-in ends),
-      c .before .know-chain .kept .1 .0 ∙ o .inv .4,
+      subst (Known (s .args .next .now) (s .args .d)) (sym (c .before .before .know-chain .ensures))
+          (known-more (s .args .next .now) (s .args .d) (s .pre .0 .next-in) (o .known) (o .inv .3) _ start-in ends),
+      c .before .before .know-chain .kept .1 .0 ∙ o .inv .4,
     )
+
+same-length : tie.Need-same-length Inv-loop μ-loop Inv-modules μ-modules
+same-length c = c .before .modules .inv .4 ∙ simp length-set
 
 returns : tie.Need-returns Inv-loop μ-loop Inv-modules μ-modules
 unfolding badChain
 returns c =
-    let s = c .before .before .before .before .args in
+    let s = c .before .before .before .before .before .args in
     let o = c .before .modules in
     o .inv .0 ∙ sym (any-none (λ k. not (ended (s .next .now) (s .d) (getD (s .first .now) k 0))) (s .n) (λ k h. o .inv .2 k (omega arith)))
+
+same-length-2 : tie.Need-same-length-2 Inv-loop μ-loop Inv-modules μ-modules
+same-length-2 c = c .before .before .before .before .before .before .modules .inv .4 ∙ simp length-set
 
 returns-2 : tie.Need-returns-2 Inv-loop μ-loop Inv-modules μ-modules
 unfolding badChain
 returns-2 c =
-    let s = c .before .before .before .before .before .before .before .before .args in
-    let o = c .before .before .before .before .before .modules in
-    let l = c .before .before .loop in
-    let some = unmarked-some (l .r) (o .inv .3 .marks) (c .before .loop-test .taken) in
-    let none = along-none (s .next .now) (s .d) _ (l .left) (l .r) (l .inv .3) (c .if1 .taken) some in
-    let below = c .before .before .before .before .modules-test .taken in
+    let s = c .before .before .before .before .before .before .before .before .before .before .args in
+    let o = c .before .before .before .before .before .before .modules in
+    let l = c .before .before .before .loop in
+    let some = unmarked-some (l .r) (o .inv .3 .marks) (c .before .if1 .taken) in
+    let none = along-none (s .next .now) (s .d) _ (l .left) (l .r) (l .inv .3) (c .if2 .taken) some in
+    let below = c .before .before .before .before .before .modules-test .taken in
     sym (any-some (λ k. not (ended (s .next .now) (s .d) (getD (s .first .now) k 0))) (s .n) (o .m) below (ap not none))
 
 pub bad-chain-spec : {M : Type 1} → statement M
@@ -169,23 +163,24 @@ bad-chain-spec =
     μ-loop
     Inv-modules
     μ-modules
-    array-write-known
+    slice-write-known
     modules-holds
     mul-start
     shared-slice-read-start
     cast-start
     loop-holds
-    array-read-loop
+    slice-read-if1
     sub-left
     mul-r
     shared-slice-read-r
     cast-r
     loop-less
     loop-again
-    slice-aggregate-know-chain
     know-chain-requires
     add-m
     modules-less
     modules-again
+    same-length
     returns
+    same-length-2
     returns-2)

@@ -26,8 +26,8 @@ returns-2 c =
     let f = sym (c .before .bad-record .ensures) ∙ c .if2 .taken in
     rw (e, f)
 
-bad-chain-requires : tie.Need-bad-chain-requires
-bad-chain-requires c κs =
+any-bad-chain-requires : tie.Need-any-bad-chain-requires
+any-bad-chain-requires c κs =
     let s = c .before .before .before .before .before .before .before in
     let e = sym (c .before .before .before .bad-first .ensures) ∙ c .before .before .if1 .left in
     let f = sym (c .before .bad-record .ensures) ∙ c .if2 .left in
@@ -44,7 +44,7 @@ unfolding badRecords
 returns-3 c =
     let e = sym (c .before .before .before .before .bad-first .ensures) ∙ c .before .before .before .if1 .left in
     let f = sym (c .before .before .bad-record .ensures) ∙ c .before .if2 .left in
-    rw (e, f) (c .bad-chain .ensures)
+    rw (e, f) (c .any-bad-chain .ensures)
 
 pub bad-records-spec : {M : Type 1} → statement M
 bad-records-spec =
@@ -54,5 +54,5 @@ bad-records-spec =
     returns
     bad-record-requires
     returns-2
-    bad-chain-requires
+    any-bad-chain-requires
     returns-3)

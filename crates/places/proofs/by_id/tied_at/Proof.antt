@@ -26,8 +26,7 @@ shared-slice-read-rhs c = search needs
 
 comes-before-requires : tie.Need-comes-before-requires
 comes-before-requires c κs =
-    let s = c .before .before .before .before .before in
-    (
+    let s = c .before .before .before .before .before in (
       place-in-table _ _ (s .args .list .now) (s .pre .0) (s .args .i) (omega arith),
       place-in-table _ _ (s .args .list .now) (s .pre .0) (s .args .i + 1) (omega arith),
       record { left-has = omega arith; right-has = omega arith; same = λ j h. absurd (omega arith) },
