@@ -23,16 +23,17 @@ one-of-sum l i h = omega (arith, sum-take-suc l i h, sum-take-le (suc i) l)
 pub length-sizes : (sizes order : List ℕ) → length (sizesIn sizes order) ≡ length order
 length-sizes sizes order = length-map order (λ k. getD sizes k 0)
 
+-- a size is at most 2^53, so that a double holds it
+pub held : (l : List ℕ) (i : ℕ) → i < length l → sum l ≤ 2 ^ 53 → T (inFloat binary64 (pos (getD l i 0)))
+unfolding inFloat
+held l i h exact = le→leb (getD l i 0) (2 ^ 53) (omega (arith, one-of-sum l i h))
+
 module _ (sizes order : List ℕ) (i : ℕ) (h : i < length order) where
   pub size-in : getD (sizesIn sizes order) i 0 ≡ getD sizes (getD order i 0) 0
   size-in = getD-map-below (λ k. getD sizes k 0) order i 0 0 h
 
-  -- a size is at most 2^53, so that a double holds it
   pub size-held : Sized sizes order → T (inFloat binary64 (pos (getD sizes (getD order i 0) 0)))
-  unfolding inFloat
-  size-held s =
-      let small : getD sizes (getD order i 0) 0 ≤ 2 ^ 53 = omega (arith, size-in, one-of-sum (sizesIn sizes order) i (rw length-sizes h), s .exact) in
-      le→leb (getD sizes (getD order i 0) 0) (2 ^ 53) small
+  size-held s = rw (← size-in) (held (sizesIn sizes order) i (rw length-sizes h) (s .exact))
 
 -- ---- ids
 
