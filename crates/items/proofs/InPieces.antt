@@ -14,7 +14,7 @@ use Rattle.oversized.specs.InOrder.{byRank}
 use Rattle.oversized.specs.Cutting.{cuttingOf, sizesOf, Pending, Cutted}
 use Rattle.emitting.specs.Emitted.{Work, Emission, withChunks, partsFrom, emissions, Parts}
 use Rattle.emitting.specs.declared.emit.Head.{Head}
-use Rattle.items.specs.Turn.{Tables, chunkOf, inPieces, ItemReady, Converted}
+use Rattle.items.specs.Turn.{Tables, chunkOf, inPieces, ItemReady, PieceRoom, Converted}
 use Rattle.items.proofs.RankOrder.{rank-perm, perm-cuttable, perm-total, perm-room, perm-long}
 use Rattle.items.proofs.PartsBack.{parts-back, starts-length, starts-within, starts-fall, pieces-emitted, sizes-length}
 
@@ -27,15 +27,15 @@ module _ {t : Tables} {bits modules : List ℕ} {w : Work} {number at : ℕ} (r 
   long = perm-long ordered
 
   pub order-pending : {total : Float} {starts : List ℕ} {totals : List Float} → total ≡ sumF64 (sizesIn (t .sizes) modules)
-      → length starts ≡ 4096 → length totals ≡ 4096 → Pending (t .bytes) (t .offsets) (t .sizes) order total starts totals
-  order-pending whole s n =
+      → PieceRoom modules starts totals → Pending (t .bytes) (t .offsets) (t .sizes) order total starts totals
+  order-pending whole p =
       record {
         tables = perm-cuttable ordered (r .tables);
         few = omega (arith, long, r .few);
         some = omega (arith, long);
         whole = whole ∙ perm-total ordered (r .tables);
-        starts-room = omega (arith, long, r .few);
-        totals-room = omega (arith, long, r .few);
+        starts-room = omega (arith, long, p .starts-room);
+        totals-room = omega (arith, long, p .totals-room);
       }
 
   module _ (minimum maximum : Float) {count : ℕ} {starts : List ℕ} {totals : List Float}

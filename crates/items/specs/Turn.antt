@@ -93,6 +93,11 @@ pub record Totalled (sizes modules : List ℕ) (total : Float) : Type 0 where
   pub some : 1 ≤ length modules
   pub whole : total ≡ sumF64 (sizesIn sizes modules)
 
+-- areas with room for as many pieces as modules
+pub record PieceRoom (modules starts : List ℕ) (totals : List Float) : Type 0 where
+  pub starts-room : length modules ≤ length starts
+  pub totals-room : length modules ≤ length totals
+
 -- what an item on its turn leaves: so many chunks, and the areas with them
 pub record Converted (es : List Emission) (bits : List ℕ) (number at count : ℕ) (before after : Work) : Type 0 where
   pub made : count ≡ length es

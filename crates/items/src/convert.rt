@@ -10,7 +10,7 @@ use oversized::order::in_id_order;
 use oversized::pieces::split_oversized;
 ghost use mathlib.Core.Path.{_≡_};
 ghost use lib.ListN.{length};
-ghost use Rattle.items.specs.Turn.{untaken, overLimit, inPieces, emittedWithin, emittedFrom, Listed, ItemReady, Totalled, Converted};
+ghost use Rattle.items.specs.Turn.{untaken, overLimit, inPieces, emittedWithin, emittedFrom, Listed, ItemReady, Totalled, PieceRoom, Converted};
 
 // The two limits in force for the size of a chunk.
 pub struct Limits {
@@ -18,7 +18,7 @@ pub struct Limits {
     pub maximum: Limit,
 }
 
-// Emits the pieces of modules above the maximum, or all of them if no cut is allowed.
+// Emits the pieces of modules above the maximum, or all of them if no cut is allowed. Two areas hold where the pieces begin and their sizes.
 fn emit_oversized(
     head: Head,
     total: f64,
@@ -37,6 +37,8 @@ fn emit_oversized(
     name_of: &mut [u32],
     size_of: &mut [f64],
     bits_of: &mut [u64],
+    starts: &mut [u32],
+    piece_sizes: &mut [f64],
 ) -> usize
     requires { ⌜ ItemReady (record {
       bytes = now bytes;
@@ -50,7 +52,7 @@ fn emit_oversized(
       size-of = now «size_of»;
       bits-of = now «bits_of»;
     }) (number .0) at ⌝ }
-    requires { ⌜ Totalled (now sizes) (now members) total ⌝ }
+    requires { ⌜ Totalled (now sizes) (now members) total × PieceRoom (now members) (now starts) (now «piece_sizes») ⌝ }
     ensures { λ r. ⌜ Converted (inPieces (record {
       bytes = now (bytes .entry);
       offsets = now (offsets .entry);
@@ -70,8 +72,6 @@ fn emit_oversized(
       bits-of = now («bits_of» .exit);
     }) ⌝ }
 {
-    let mut starts = [0u32; 4096];
-    let mut piece_sizes = [0.0f64; 4096];
     in_id_order(rank, members);
     let count = split_oversized(
         bytes,
@@ -81,8 +81,8 @@ fn emit_oversized(
         total,
         minimum,
         maximum,
-        &mut starts,
-        &mut piece_sizes,
+        starts,
+        piece_sizes,
     );
     emit_parts(
         head,
@@ -114,7 +114,7 @@ fn over_limit(maximum: Limit, size: f64) -> Limit
     Limit::Absent
 }
 
-// Emits modules that are not below the minimum: whole within the maximum, else in pieces.
+// Emits modules that are not below the minimum: whole within the maximum, else in pieces. Few modules get short tables, which cost less.
 fn emit_item(
     head: Head,
     total: f64,
@@ -184,6 +184,33 @@ fn emit_item(
         );
         return 1;
     };
+    if members.len() <= 256 {
+        let mut starts = [0u32; 256];
+        let mut piece_sizes = [0.0f64; 256];
+        return emit_oversized(
+            head,
+            total,
+            minimum,
+            maximum,
+            sizes,
+            bits,
+            bytes,
+            offsets,
+            rank,
+            number,
+            at,
+            members,
+            chunk_of,
+            group_of,
+            name_of,
+            size_of,
+            bits_of,
+            &mut starts,
+            &mut piece_sizes,
+        );
+    }
+    let mut starts = [0u32; 4096];
+    let mut piece_sizes = [0.0f64; 4096];
     emit_oversized(
         head,
         total,
@@ -202,6 +229,8 @@ fn emit_item(
         name_of,
         size_of,
         bits_of,
+        &mut starts,
+        &mut piece_sizes,
     )
 }
 
