@@ -58,7 +58,8 @@ module _ {similar : List ℕ} {sums : List Float} {total : Float} (m : Neighbour
       (subst (λ (k : ℕ). Turn (m .bytes) (m .offsets) (m .sizes) minimum maximum (m .order) (backwards 0 n s) (backwards nan n p) 1 k 0 s p) (sym all) t)
 
   module _ {starts : List ℕ} {pieces : List Float} {top end count : ℕ} (t : Turning starts pieces top end count) where
-    pub area-done : n ≤ top → Cutted (piecesOf (cuttingOf (m .bytes) (m .offsets) (m .sizes) minimum maximum) (m .order)) (m .order) (m .sizes) count starts pieces
+    pub area-done : n ≤ top
+        → Cutted (piecesOf (cuttingOf (m .bytes) (m .offsets) (m .sizes) minimum maximum) (m .order)) (m .order) (m .sizes) count starts pieces
     area-done h = turn-end t (omega arith)
 
     module _ (inside : top < n) where
@@ -108,7 +109,8 @@ module _ {similar : List ℕ} {sums : List Float} {total : Float} (m : Neighbour
 
       -- what is answered for the parts of the tables that are handed over
       pub area-answer : (answer : Chosen)
-          → ((p : Tabled (take (end - start) (drop start similar)) (take (end - start) (drop start sums)) size) → answer ≡ cutWithin (p .ids) (p .sizes) size minimum maximum)
+          → ((p : Tabled (take (end - start) (drop start similar)) (take (end - start) (drop start sums)) size)
+          → answer ≡ cutWithin (p .ids) (p .sizes) size minimum maximum)
           → Answered t some answer
       area-answer answer f =
           part-answer m start (end - start) (omega (arith, area-below, t .looking .within)) size minimum maximum its-size answer f
@@ -122,8 +124,8 @@ module _ {similar : List ℕ} {sums : List Float} {total : Float} (m : Neighbour
           let inside′ : count < n = omega (arith, area-room, area-below) in
           let fewer : n - top - 1 ≡ n - (top + 1) = omega arith in
           let above : n - top - 1 ≤ n - 1 - count = omega (arith, area-room, area-deep) in
-          let taken : Turn (m .bytes) (m .offsets) (m .sizes) minimum maximum (m .order) (backwards 0 n starts) (backwards nan n pieces) (n - top - 1) start (count + 1)
-          (set starts count start) (set pieces count size) = rw (area-top, area-size) at (turn-taken t some q) in
+          let taken : Turn (m .bytes) (m .offsets) (m .sizes) minimum maximum (m .order) (backwards 0 n starts) (backwards nan n pieces)
+          (n - top - 1) start (count + 1) (set starts count start) (set pieces count size) = rw (area-top, area-size) at (turn-taken t some q) in
           turn-as
           (sym (set-backwards 0 n starts count start inside′ starts-room))
           (sym (set-backwards nan n pieces count size inside′ sizes-room))

@@ -65,7 +65,8 @@ module _ {bytes offsets sizes : List ℕ} {minimum maximum : Float} {l pending :
   c = cuttingOf bytes offsets sizes minimum maximum
 
   -- what stands above the stack doesn't matter
-  pub turn-above : (k v : ℕ) (x : Float) → depth ≤ k → Turn bytes offsets sizes minimum maximum l (set pending k v) (set totals k x) depth end count starts pieces
+  pub turn-above : (k v : ℕ) (x : Float) → depth ≤ k
+      → Turn bytes offsets sizes minimum maximum l (set pending k v) (set totals k x) depth end count starts pieces
   turn-above k v x h =
       let q = t .looking in
       record {

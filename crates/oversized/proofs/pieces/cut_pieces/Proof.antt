@@ -43,7 +43,8 @@ slice-write-piece-sizes c = omega arith
 loop-holds : tie.Need-loop-holds Inv-loop μ-loop
 loop-holds c =
     let s = c .before .before .before .before in
-    (λ m. area-start m _ _ (s .args .starts .now) (s .args .piece-sizes .now) (s .pre .some) (s .pre .starts-room) (s .pre .sizes-room), omega arith, refl, refl)
+    let p = s .pre in
+    (λ m. area-start m _ _ (s .args .starts .now) (s .args .piece-sizes .now) (p .some) (p .starts-room) (p .sizes-room), omega arith, refl, refl)
 
 -- ---- what each turn begins with
 
@@ -141,10 +142,14 @@ end-piece-requires c κs =
     }
 
 add-count : tie.Need-add-count Inv-loop μ-loop
-add-count c = let d = c .before .before .before .before .before .before .before .before .before .before .before .before .before .before in omega (arith, room d, entry d .pre .few)
+add-count c =
+    let d = c .before .before .before .before .before .before .before .before .before .before .before .before .before .before in
+    omega (arith, room d, entry d .pre .few)
 
 add-top : tie.Need-add-top Inv-loop μ-loop
-add-top c = let d = c .before .before .before .before .before .before .before .before .before .before .before .before .before .before in omega (arith, inside d, entry d .pre .few)
+add-top c =
+    let d = c .before .before .before .before .before .before .before .before .before .before .before .before .before .before in
+    omega (arith, inside d, entry d .pre .few)
 
 loop-less : tie.Need-loop-less Inv-loop μ-loop
 loop-less c =
@@ -155,12 +160,13 @@ loop-less c =
 loop-again : tie.Need-loop-again Inv-loop μ-loop
 loop-again c =
     let f = c .before .before .before .before .before .before .before in
-    let d = c .before .before .before .before .before .before .before .before .before .before .before .before .before .before in
+    let d = f .before .before .before .before .before .before .before in
     let v = d .before .loop .inv in
     let e = c .before .before .before .before .end-piece .ensures in
     (
       λ m. rw (e .begins, e .sized) (area-taken m _ _ (v .0 m) (inside d)
-          (area-answer m _ _ (v .0 m) (inside d) none (λ p. sym (ap chosenOf (f .enum-told .given .1)) ∙ f .before .before .cut-within .ensures p))),
+          (area-answer m _ _ (v .0 m) (inside d) none
+          (λ k. sym (ap chosenOf (f .enum-told .given .1)) ∙ f .before .before .cut-within .ensures k))),
       omega (arith, inside d),
       ap length (e .begins) ∙ simp length-set (v .2),
       ap length (e .sized) ∙ simp length-set (v .3),
@@ -169,11 +175,13 @@ loop-again c =
 push-pieces-requires : tie.Need-push-pieces-requires Inv-loop μ-loop
 push-pieces-requires c κs =
     let f = c .before .before .before in
-    let d = c .before .before .before .before .before .before .before .before .before .before in
+    let d = f .before .before .before .before .before .before .before in
     let m = entry d .pre .modules in
     let t = d .before .loop .inv .0 m in
     let p = f .answer .given .0 .0 in
-    let q = area-answer m _ _ t (inside d) (cut (p .index) (p .«left_size») (p .«right_size»)) (λ p. sym (ap chosenOf (f .answer .given .1)) ∙ f .before .before .cut-within .ensures p) in
+    let q =
+    area-answer m _ _ t (inside d) (cut (p .index) (p .«left_size») (p .«right_size»))
+    (λ k. sym (ap chosenOf (f .answer .given .1)) ∙ f .before .before .cut-within .ensures k) in
     record {
       some = omega (arith, area-space m _ _ t (inside d) _ _ _ q, within d);
       starts-room = omega (arith, inside d, in-starts d);
@@ -184,34 +192,38 @@ push-pieces-requires c κs =
 sub-top-2 : tie.Need-sub-top-2 Inv-loop μ-loop
 sub-top-2 c =
     let f = c .before .before .before .before .before .before .before .before in
-    let d = c .before .before .before .before .before .before .before .before .before .before .before .before .before .before .before in
+    let d = f .before .before .before .before .before .before .before in
     let m = entry d .pre .modules in
     let t = d .before .loop .inv .0 m in
     let p = f .answer .given .0 .0 in
-    let q = area-answer m _ _ t (inside d) (cut (p .index) (p .«left_size») (p .«right_size»)) (λ p. sym (ap chosenOf (f .answer .given .1)) ∙ f .before .before .cut-within .ensures p) in
+    let q =
+    area-answer m _ _ t (inside d) (cut (p .index) (p .«left_size») (p .«right_size»))
+    (λ k. sym (ap chosenOf (f .answer .given .1)) ∙ f .before .before .cut-within .ensures k) in
     omega (arith, area-space m _ _ t (inside d) _ _ _ q, within d)
 
 loop-less-2 : tie.Need-loop-less-2 Inv-loop μ-loop
 loop-less-2 c =
     let f = c .before .before .before .before .before .before .before .before in
-    let d = c .before .before .before .before .before .before .before .before .before .before .before .before .before .before .before in
+    let d = f .before .before .before .before .before .before .before in
     let m = entry d .pre .modules in
     let t = d .before .loop .inv .0 m in
     let p = f .answer .given .0 .0 in
-    let q = area-answer m _ _ t (inside d) (cut (p .index) (p .«left_size») (p .«right_size»)) (λ p. sym (ap chosenOf (f .answer .given .1)) ∙ f .before .before .cut-within .ensures p) in
+    let q =
+    area-answer m _ _ t (inside d) (cut (p .index) (p .«left_size») (p .«right_size»))
+    (λ k. sym (ap chosenOf (f .answer .given .1)) ∙ f .before .before .cut-within .ensures k) in
     area-cut-less m _ _ t (inside d) _ _ _ q
 
 loop-again-2 : tie.Need-loop-again-2 Inv-loop μ-loop
 loop-again-2 c =
     let f = c .before .before .before .before .before .before .before .before in
-    let d = c .before .before .before .before .before .before .before .before .before .before .before .before .before .before .before in
+    let d = f .before .before .before .before .before .before .before in
     let v = d .before .loop .inv in
     let p = f .answer .given .0 .0 in
     let e = c .before .before .before .before .push-pieces .ensures in
     (
       λ m. rw (e .begins, e .sized) (area-cut m _ _ (v .0 m) (inside d) (p .index) (p .«left_size») (p .«right_size»)
           (area-answer m _ _ (v .0 m) (inside d) (cut (p .index) (p .«left_size») (p .«right_size»))
-          (λ p. sym (ap chosenOf (f .answer .given .1)) ∙ f .before .before .cut-within .ensures p))),
+          (λ k. sym (ap chosenOf (f .answer .given .1)) ∙ f .before .before .cut-within .ensures k))),
       omega (arith, inside d),
       ap length (e .begins) ∙ simp length-set (v .2),
       ap length (e .sized) ∙ simp length-set (v .3),

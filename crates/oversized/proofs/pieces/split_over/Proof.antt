@@ -27,19 +27,22 @@ same-length-4 c = search needs
 
 returns : tie.Need-returns
 returns c =
-    let s = c .before .before .before .before .before .before .before .before .before .before .before .before .before .before .before .before .before .before .before .before .before .before .before .before .before in
-    let modules : Neighbours (c .before .before .before .before .before .before .before .before .before .before .before .before .before .before .before .fill-similar .last .1 .1 .1 .0) (c .before .before .before .before .before .before .before .before .before .before .before .fill-sums .last .1 .1 .0) (s .args .total) =
+    let cutting = c .before .before .before .before in
+    let summing = cutting .before .before .before .before .before .before .before in
+    let comparing = summing .before .before .before .before in
+    let s = comparing .before .before .before .before .before .before .before .before .before .before in
+    let modules : Neighbours (comparing .fill-similar .last .1 .1 .1 .0) (summing .fill-sums .last .1 .1 .0) (s .args .total) =
     record {
       bytes = s .args .bytes .now;
       offsets = s .args .offsets .now;
       sizes = s .args .sizes .now;
       order = s .args .order .now;
       tables = s .pre .0 .tables;
-      compared = c .before .before .before .before .before .before .before .before .before .before .before .before .before .before .before .fill-similar .ensures;
-      summed = c .before .before .before .before .before .before .before .before .before .before .before .fill-sums .ensures;
+      compared = comparing .fill-similar .ensures;
+      summed = summing .fill-sums .ensures;
       whole = s .pre .0 .whole;
     } in
-    c .before .before .before .before .cut-pieces .ensures modules
+    cutting .cut-pieces .ensures modules
 
 pub split-over-spec : {M : Type 1} → statement M
 split-over-spec =

@@ -12,13 +12,17 @@ array-borrow-prefix-similar : tie.Need-array-borrow-prefix-similar
 array-borrow-prefix-similar c = search needs
 
 slice-aggregate-split-over : tie.Need-slice-aggregate-split-over
-slice-aggregate-split-over c = let h : length (c .before .before .before .before .before .before .before .before .args .order .now) ≤ 256 = omega arith in sym (length-take-le _ _ h)
+slice-aggregate-split-over c =
+    let h : length (c .before .before .before .before .before .before .before .before .args .order .now) ≤ 256 = omega arith in
+    sym (length-take-le _ _ h)
 
 array-borrow-prefix-sums : tie.Need-array-borrow-prefix-sums
 array-borrow-prefix-sums c = search needs
 
 slice-aggregate-split-over-2 : tie.Need-slice-aggregate-split-over-2
-slice-aggregate-split-over-2 c = let h : length (c .before .before .before .before .before .before .before .before .before .args .order .now) ≤ 256 = omega arith in sym (length-take-le _ _ h)
+slice-aggregate-split-over-2 c =
+    let h : length (c .before .before .before .before .before .before .before .before .before .args .order .now) ≤ 256 = omega arith in
+    sym (length-take-le _ _ h)
 
 split-over-requires : tie.Need-split-over-requires
 split-over-requires c κs =
