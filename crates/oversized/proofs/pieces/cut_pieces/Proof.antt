@@ -168,8 +168,8 @@ loop-again c =
           (area-answer m _ _ (v .0 m) (inside d) none
           (λ k. sym (ap chosenOf (f .enum-told .given .1)) ∙ f .before .before .cut-within .ensures k))),
       omega (arith, inside d),
-      ap length (e .begins) ∙ simp length-set (v .2),
-      ap length (e .sized) ∙ simp length-set (v .3),
+      ap length (e .begins) ∙ simp length-set (simp length-set at (v .2)),
+      ap length (e .sized) ∙ simp length-set (simp length-set at (v .3)),
     )
 
 push-pieces-requires : tie.Need-push-pieces-requires Inv-loop μ-loop
@@ -225,8 +225,8 @@ loop-again-2 c =
           (area-answer m _ _ (v .0 m) (inside d) (cut (p .index) (p .«left_size») (p .«right_size»))
           (λ k. sym (ap chosenOf (f .answer .given .1)) ∙ f .before .before .cut-within .ensures k))),
       omega (arith, inside d),
-      ap length (e .begins) ∙ simp length-set (v .2),
-      ap length (e .sized) ∙ simp length-set (v .3),
+      ap length (e .begins) ∙ simp length-set (simp length-set at (v .2)),
+      ap length (e .sized) ∙ simp length-set (simp length-set at (v .3)),
     )
 
 same-length : tie.Need-same-length Inv-loop μ-loop
