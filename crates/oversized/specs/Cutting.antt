@@ -30,19 +30,19 @@ unfoldable pub sizesOf : List ℕ → List (List ℕ) → List Float
 unfolding sumF64
 sizesOf sizes ps = map (λ p. sumF64 (sizesIn sizes p)) ps
 
--- what is asked of the tables: the modules can be cut, their total size is handed over, and there is room for as many pieces as modules
-pub record Pending (bytes offsets sizes order : List ℕ) (total : Float) (starts : List ℕ) (totals : List Float) : Type 0 where
+-- what is asked of the modules: they can be cut, and their total size is handed over
+pub record Pending (bytes offsets sizes order : List ℕ) (total : Float) : Type 0 where
   pub tables : Cuttable bytes offsets sizes order
   pub few : length order ≤ 4096
   pub some : 1 ≤ length order
   pub whole : total ≡ sumF64 (sizesIn sizes order)
-  pub starts-room : length order ≤ length starts
-  pub totals-room : length order ≤ length totals
 
--- two areas as long as the modules are many
-pub record Lent (order similar : List ℕ) (sums : List Float) : Type 0 where
+-- two areas as long as the modules are many, and two with room for as many pieces
+pub record Lent (order similar : List ℕ) (sums : List Float) (starts : List ℕ) (totals : List Float) : Type 0 where
   pub similar-length : length similar ≡ length order
   pub sums-length : length sums ≡ length order
+  pub starts-room : length order ≤ length starts
+  pub totals-room : length order ≤ length totals
 
 -- the pieces of modules in id order, in the first `count` entries of the two areas; what lies past them is free
 pub record Cutted (ps : List (List ℕ)) (order sizes : List ℕ) (count : ℕ) (starts : List ℕ) (totals : List Float) : Type 0 where

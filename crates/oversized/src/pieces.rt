@@ -83,8 +83,8 @@ fn cut_pieces(
     count
 }
 
-// Cuts modules in id order into pieces, over two areas that are as long.
-fn split_over(
+// Cuts modules in id order into pieces, the rightmost first. Answers how many there are. Neighbours are compared, and sizes added, once for all cuts.
+pub fn split_oversized(
     bytes: &[u8],
     offsets: &[u32],
     sizes: &[u64],
@@ -97,63 +97,12 @@ fn split_over(
     starts: &mut [u32],
     piece_sizes: &mut [f64],
 ) -> usize
-    requires { ⌜ Pending (now bytes) (now offsets) (now sizes) (now order) total (now starts) (now «piece_sizes») ⌝ }
-    requires { ⌜ Lent (now order) (now similar) (now sums) ⌝ }
+    requires { ⌜ Pending (now bytes) (now offsets) (now sizes) (now order) total ⌝ }
+    requires { ⌜ Lent (now order) (now similar) (now sums) (now starts) (now «piece_sizes») ⌝ }
     ensures { λ r. ⌜ Cutted (piecesOf (cuttingOf (now (bytes .entry)) (now (offsets .entry)) (now (sizes .entry)) minimum maximum)
         (now (order .entry))) (now (order .entry)) (now (sizes .entry)) r (now (starts .exit)) (now («piece_sizes» .exit)) ⌝ }
 {
     fill_similar(bytes, offsets, order, similar);
     fill_sums(sizes, order, sums);
     cut_pieces(similar, sums, total, minimum, maximum, starts, piece_sizes)
-}
-
-// Cuts modules in id order into pieces, the rightmost first. Answers how many there are. Few modules get short tables, which cost less.
-pub fn split_oversized(
-    bytes: &[u8],
-    offsets: &[u32],
-    sizes: &[u64],
-    order: &[u32],
-    total: f64,
-    minimum: f64,
-    maximum: f64,
-    starts: &mut [u32],
-    piece_sizes: &mut [f64],
-) -> usize
-    requires { ⌜ Pending (now bytes) (now offsets) (now sizes) (now order) total (now starts) (now «piece_sizes») ⌝ }
-    ensures { λ r. ⌜ Cutted (piecesOf (cuttingOf (now (bytes .entry)) (now (offsets .entry)) (now (sizes .entry)) minimum maximum)
-        (now (order .entry))) (now (order .entry)) (now (sizes .entry)) r (now (starts .exit)) (now («piece_sizes» .exit)) ⌝ }
-{
-    let n = order.len();
-    if n <= 256 {
-        let mut similar = [0u32; 256];
-        let mut sums = [0.0f64; 256];
-        return split_over(
-            bytes,
-            offsets,
-            sizes,
-            order,
-            total,
-            minimum,
-            maximum,
-            &mut similar[..n],
-            &mut sums[..n],
-            starts,
-            piece_sizes,
-        );
-    }
-    let mut similar = [0u32; 4096];
-    let mut sums = [0.0f64; 4096];
-    split_over(
-        bytes,
-        offsets,
-        sizes,
-        order,
-        total,
-        minimum,
-        maximum,
-        &mut similar[..n],
-        &mut sums[..n],
-        starts,
-        piece_sizes,
-    )
 }

@@ -1,33 +1,17 @@
--- `oversized::pieces::split_oversized` meets its contract: two local areas are lent as far as the modules need them.
-use Prim.Native.Nat.{_≤_}
-use mathlib.Core.Path.{sym}
-use native.Mathlib.Omega.{arith}
-use lib.ListN.{length}
-use lib.Seq.{length-take-le}
+-- `oversized::pieces::split_oversized` meets its contract: the tables that are filled are those of the modules.
 use borrow.Author.Needs.{needs}
+use Rattle.oversized.specs.Neighbours.{Neighbours}
 use Rattle.oversized.proofs.pieces.split_oversized.Statement.{statement}
 use Rattle.oversized.proofs.pieces.split_oversized.Tie as tie
 
-array-borrow-prefix-similar : tie.Need-array-borrow-prefix-similar
-array-borrow-prefix-similar c = search needs
+fill-similar-requires : tie.Need-fill-similar-requires
+fill-similar-requires c κs = search needs
 
-slice-aggregate-split-over : tie.Need-slice-aggregate-split-over
-slice-aggregate-split-over c =
-    let h : length (c .before .before .before .before .before .before .before .before .args .order .now) ≤ 256 = omega arith in
-    sym (length-take-le _ _ h)
+fill-sums-requires : tie.Need-fill-sums-requires
+fill-sums-requires c κs = search needs
 
-array-borrow-prefix-sums : tie.Need-array-borrow-prefix-sums
-array-borrow-prefix-sums c = search needs
-
-slice-aggregate-split-over-2 : tie.Need-slice-aggregate-split-over-2
-slice-aggregate-split-over-2 c =
-    let h : length (c .before .before .before .before .before .before .before .before .before .args .order .now) ≤ 256 = omega arith in
-    sym (length-take-le _ _ h)
-
-split-over-requires : tie.Need-split-over-requires
-split-over-requires c κs =
-    let h : length (c .before .before .before .before .before .before .before .before .before .before .before .args .order .now) ≤ 256 = omega arith in
-    (c .before .before .before .before .before .before .before .before .before .before .before .pre, record { similar-length = length-take-le _ _ h; sums-length = length-take-le _ _ h })
+cut-pieces-requires : tie.Need-cut-pieces-requires
+cut-pieces-requires c κs = search needs
 
 same-length : tie.Need-same-length
 same-length c = search needs
@@ -35,52 +19,40 @@ same-length c = search needs
 same-length-2 : tie.Need-same-length-2
 same-length-2 c = search needs
 
-returns : tie.Need-returns
-returns c = search needs
-
-array-borrow-prefix-similar-2 : tie.Need-array-borrow-prefix-similar-2
-array-borrow-prefix-similar-2 c = search needs
-
-slice-aggregate-split-over-3 : tie.Need-slice-aggregate-split-over-3
-slice-aggregate-split-over-3 c = sym (length-take-le _ _ (c .before .before .before .before .before .before .before .before .pre .few))
-
-array-borrow-prefix-sums-2 : tie.Need-array-borrow-prefix-sums-2
-array-borrow-prefix-sums-2 c = search needs
-
-slice-aggregate-split-over-4 : tie.Need-slice-aggregate-split-over-4
-slice-aggregate-split-over-4 c = sym (length-take-le _ _ (c .before .before .before .before .before .before .before .before .before .pre .few))
-
-split-over-requires-2 : tie.Need-split-over-requires-2
-split-over-requires-2 c κs =
-    let p = c .before .before .before .before .before .before .before .before .before .before .before .pre in
-    (p, record { similar-length = length-take-le _ _ (p .few); sums-length = length-take-le _ _ (p .few) })
-
 same-length-3 : tie.Need-same-length-3
 same-length-3 c = search needs
 
 same-length-4 : tie.Need-same-length-4
 same-length-4 c = search needs
 
-returns-2 : tie.Need-returns-2
-returns-2 c = search needs
+returns : tie.Need-returns
+returns c =
+    let cutting = c .before .before .before .before in
+    let summing = cutting .before .before .before .before .before .before .before in
+    let comparing = summing .before .before .before .before in
+    let s = comparing .before .before .before .before .before .before .before .before .before .before in
+    let modules : Neighbours (comparing .fill-similar .last .1 .1 .1 .0) (summing .fill-sums .last .1 .1 .0) (s .args .total) =
+    record {
+      bytes = s .args .bytes .now;
+      offsets = s .args .offsets .now;
+      sizes = s .args .sizes .now;
+      order = s .args .order .now;
+      tables = s .pre .0 .tables;
+      compared = comparing .fill-similar .ensures;
+      summed = summing .fill-sums .ensures;
+      whole = s .pre .0 .whole;
+    } in
+    cutting .cut-pieces .ensures modules
 
 pub split-oversized-spec : {M : Type 1} → statement M
 split-oversized-spec =
     tie.close
     (tie.spec
-    array-borrow-prefix-similar
-    slice-aggregate-split-over
-    array-borrow-prefix-sums
-    slice-aggregate-split-over-2
-    split-over-requires
+    fill-similar-requires
+    fill-sums-requires
+    cut-pieces-requires
     same-length
     same-length-2
-    returns
-    array-borrow-prefix-similar-2
-    slice-aggregate-split-over-3
-    array-borrow-prefix-sums-2
-    slice-aggregate-split-over-4
-    split-over-requires-2
     same-length-3
     same-length-4
-    returns-2)
+    returns)
