@@ -1,4 +1,4 @@
--- The sizes and the ids of modules in an order of their own: each module of the order has a size that a double holds, and an id within the limit.
+-- The sizes and the ids of modules in an order of their own: each module of the order has a size that a double holds.
 use Prim.Native.Nat.{ℕ, suc, _^_, _≤_, _<_}
 use mathlib.Core.List.{List, []}
 use mathlib.Core.Path.{_≡_}
@@ -10,10 +10,8 @@ use lib.ListN.{length, getD, length-map}
 use Rattle.lists.specs.Sum.{sum}
 use Rattle.lists.proofs.Map.{getD-map-below}
 use Rattle.lists.proofs.Sum.{sum-take-suc, sum-take-le}
-use Rattle.ids.specs.Parts.{idAt, InTable}
-use Rattle.ids.specs.Offsets.{idLimit}
-use Rattle.ids.proofs.IdParts.{in-table, id-length}
-use Rattle.cut.specs.Order.{sizesIn, idsIn, Sized, Named}
+use Rattle.ids.specs.Parts.{idAt}
+use Rattle.cut.specs.Order.{sizesIn, idsIn, Sized}
 
 -- ---- sizes
 
@@ -40,12 +38,5 @@ module _ (sizes order : List ℕ) (i : ℕ) (h : i < length order) where
 pub length-ids : (bytes offsets order : List ℕ) → length (idsIn bytes offsets order) ≡ length order
 length-ids bytes offsets order = length-map order (idAt bytes offsets)
 
-module _ (bytes offsets order : List ℕ) (named : Named bytes offsets order) (i : ℕ) (h : i < length order) where
-  pub id-in : getD (idsIn bytes offsets order) i [] ≡ idAt bytes offsets (getD order i 0)
-  id-in = getD-map-below (idAt bytes offsets) order i [] 0 h
-
-  pub id-in-table : InTable bytes offsets (getD order i 0)
-  id-in-table = in-table idLimit bytes offsets (getD order i 0) (named .good) (named .has-id i h)
-
-  pub id-short : length (idAt bytes offsets (getD order i 0)) ≤ 1024
-  id-short = id-length idLimit bytes offsets (getD order i 0) (named .good) (named .has-id i h)
+pub id-in : (bytes offsets order : List ℕ) (i : ℕ) → i < length order → getD (idsIn bytes offsets order) i [] ≡ idAt bytes offsets (getD order i 0)
+id-in bytes offsets order i h = getD-map-below (idAt bytes offsets) order i [] 0 h

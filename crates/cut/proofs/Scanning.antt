@@ -2,7 +2,7 @@
 -- Each turn looks at one place more.
 use Prim.Native.Nat.{ℕ, suc, _+_, _-_, _≤_}
 use mathlib.Core.Bool.{Bool, true, false, cond}
-use mathlib.Core.List.{List, [], _∷_, _++_, foldl, map}
+use mathlib.Core.List.{List, [], _∷_, foldl, map, map-append}
 use mathlib.Core.Path.{_≡_, refl, sym, ap, _∙_}
 use native.Mathlib.Omega.{arith}
 use lib.ListN.{length}
@@ -60,10 +60,6 @@ scan-cuts b ids sizes k e =
     ∙ scan-picks b (map (candidateAt ids sizes) (range 1 (length ids - 1)))
 
 -- ---- one place more
-
-map-append : {A B : Type 0} (f : A → B) (l m : List A) → map f (l ++ m) ≡ map f l ++ map f m
-map-append f [] m = refl
-map-append f (x ∷ l) m = ap (λ t. f x ∷ t) (map-append f l m)
 
 place-more : (b : Bounds) (f : ℕ → Candidate) (k : ℕ)
     → foldl (considered b) Nothing (map f (range 1 (suc k))) ≡ considered b (foldl (considered b) Nothing (map f (range 1 k))) (f (1 + k))

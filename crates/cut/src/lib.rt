@@ -3,6 +3,7 @@ pub mod alike;
 pub mod candidate;
 pub mod given;
 pub mod scan;
+pub mod sizes;
 pub mod tabled;
 
 ghost use mathlib.Core.Path.{_≡_};

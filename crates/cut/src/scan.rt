@@ -4,12 +4,8 @@ use crate::CutPoint;
 use crate::candidate::Candidate;
 ghost use mathlib.Core.Path.{_≡_};
 ghost use mathlib.Core.Bool.{_&&_};
-ghost use Prim.Native.Nat.{_<_};
 ghost use lib.Ieee.{le};
-ghost use lib.ListN.{length, getD};
-ghost use Rattle.whole.specs.Double.{toF64, sumF64};
 ghost use Rattle.cut.specs.Call.{chosenOf};
-ghost use Rattle.cut.specs.Order.{sizesIn, Sized};
 ghost use Rattle.cut.specs.Scan.{replaced, ruledOut, considered, chosenFrom};
 
 // The best of the allowed cuts that were looked at.
@@ -88,27 +84,4 @@ pub fn both_reach(minimum: f64, left: f64, right: f64) -> bool
         return false;
     }
     minimum <= right
-}
-
-// The size of the module at place i of the order.
-pub fn size_at(sizes: &[u64], order: &[u32], i: usize) -> f64
-    requires { ⌜ Sized (now sizes) (now order) ⌝ }
-    requires { ⌜ i < length (now order) ⌝ }
-    ensures { λ r. ⌜ r ≡ toF64 (getD (sizesIn (now (sizes .entry)) (now (order .entry))) i 0) ⌝ }
-{
-    sizes[order[i] as usize] as f64
-}
-
-// The sizes of all the modules, added one after the other.
-pub fn total_size(sizes: &[u64], order: &[u32]) -> f64
-    requires { ⌜ Sized (now sizes) (now order) ⌝ }
-    ensures { λ r. ⌜ r ≡ sumF64 (sizesIn (now (sizes .entry)) (now (order .entry))) ⌝ }
-{
-    let mut total = 0.0;
-    let mut i = 0;
-    while i < order.len() {
-        total = total + size_at(sizes, order, i);
-        i = i + 1;
-    }
-    total
 }

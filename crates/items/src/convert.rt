@@ -1,7 +1,7 @@
 // An item turned into chunks.
 use crate::left::keep_left;
 use crate::pieces::emit_oversized;
-use cut::scan::total_size;
+use cut::sizes::total_size;
 use emitting::emit::Head;
 use emitting::emit::emit_chunk;
 use index::ChunkIdx;

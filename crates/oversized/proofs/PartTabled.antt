@@ -14,7 +14,7 @@ use Rattle.whole.proofs.Exact.{sum-exact}
 use Rattle.ids.specs.Parts.{idAt}
 use Rattle.similarity.specs.Similarity.{similarity}
 use Rattle.cut.specs.Cut.{Chosen}
-use Rattle.cut.specs.Order.{sizesIn, idsIn, Named}
+use Rattle.cut.specs.Order.{sizesIn, idsIn}
 use Rattle.cut.specs.Tables.{Tabled}
 use Rattle.cut.proofs.InOrder.{id-in, length-ids}
 use Rattle.oversized.specs.Neighbours.{Neighbours}
@@ -37,19 +37,10 @@ module _ {similar : List ℕ} {sums : List Float} {total : Float} (m : Neighbour
 
   -- ---- ids
 
-  part-named : Named (m .bytes) (m .offsets) part
-  part-named =
-      let t = m .tables .named in
-      let long = part-length (m .order) a n fits in
-      record {
-        good = t .good;
-        has-id = λ i h. rw (part-at (m .order) a n fits 0 i (omega arith)) (t .has-id (a + i) (omega arith));
-      }
-
   id-at-part : (i : ℕ) → i < n → getD (idsIn (m .bytes) (m .offsets) part) i [] ≡ idAt (m .bytes) (m .offsets) (getD (m .order) (a + i) 0)
   id-at-part i h =
       let long = part-length (m .order) a n fits in
-      id-in (m .bytes) (m .offsets) part part-named i (omega arith) ∙ ap (idAt (m .bytes) (m .offsets)) (part-at (m .order) a n fits 0 i h)
+      id-in (m .bytes) (m .offsets) part i (omega arith) ∙ ap (idAt (m .bytes) (m .offsets)) (part-at (m .order) a n fits 0 i h)
 
   -- an entry of the part is how alike two of its ids are
   alike-at-part : (i : ℕ) → 1 ≤ i → i < n → getD similar (a + i) 0

@@ -1,5 +1,5 @@
 -- What holds on each turn of the loop that cuts modules in id order into pieces, and that one look keeps it: the part on top is finished or cut.
-use Prim.Native.Nat.{ℕ, _+_, _-_, _*_, _≤_, _<_}
+use Prim.Native.Nat.{ℕ, _+_, _-_, _≤_, _<_}
 use mathlib.Core.Bool.{Bool, true, false, cond}
 use mathlib.Core.List.{List, [], _∷_, _++_}
 use mathlib.Core.Path.{_≡_, refl, sym, ap, ap₂, _∙_}
@@ -17,7 +17,7 @@ use Rattle.settling.specs.Pieces.{Cutting, cutIn, piecesOf}
 use Rattle.settling.proofs.PieceBound.{tooLarge}
 use Rattle.settling.proofs.RangeStack.{topOf, pending-set, rises-set}
 use Rattle.settling.proofs.RangePieces.{Looking, topPart, looking-start, looking-end, top-below, top-deep, looking-small, looking-uncut}
-use Rattle.settling.proofs.RangePieces.{cut-from-one, cut-below, looking-cut, cut-less, taken-less}
+use Rattle.settling.proofs.RangePieces.{cut-from-one, cut-below, looking-cut}
 use Rattle.oversized.specs.Cutting.{cuttingOf, cutWithin, Cutted, startsFrom, sizesOf}
 use Rattle.oversized.proofs.Stored.{Stored, none-stored, one-stored}
 use Rattle.oversized.proofs.Totals.{Totalled, starts-set, totals-set, totalled-start, totalled-top, totalled-cut}
@@ -151,12 +151,6 @@ module _ {bytes offsets sizes : List ℕ} {minimum maximum : Float} {l pending :
           sizes-room = rw length-set (t .sizes-room);
         }
 
-    pub turn-taken-less : 2 * top - (depth - 1) < 2 * end - depth
-    turn-taken-less = taken-less c l pending end depth (t .found) some (t .looking)
-
-    pub turn-room : count < length l
-    turn-room = omega (arith, turn-below, t .stored .room)
-
     -- ---- a cut
 
     module _ (i : ℕ) (left right : Float) (q : Answered (cut i left right)) where
@@ -199,6 +193,3 @@ module _ {bytes offsets sizes : List ℕ} {minimum maximum : Float} {l pending :
             starts-room = t .starts-room;
             sizes-room = t .sizes-room;
           }
-
-      pub turn-cut-less : 2 * end - (depth + 1) < 2 * end - depth
-      turn-cut-less = cut-less c l pending end depth (t .found) some (t .looking) i left right (here .1)

@@ -1,6 +1,6 @@
 // What the cuts of modules in an order read: how alike each is to the one before it, and the sizes that lie before each.
 use cut::alike::similarity_between;
-use cut::scan::size_at;
+use cut::sizes::size_at;
 use index::ModuleIdx;
 ghost use mathlib.Core.Path.{_≡_};
 ghost use lib.ListN.{length};

@@ -69,7 +69,13 @@ fn cut_pieces(
     while top < n {
         let start = starts[top] as usize;
         let size = piece_sizes[top];
-        let answer = cut_within(&similar[start..end], &sums[start..end], size, minimum, maximum);
+        let answer = cut_within(
+            &similar[start..end],
+            &sums[start..end],
+            size,
+            minimum,
+            maximum,
+        );
         let Cut::At(point) = answer else {
             end_piece(starts, piece_sizes, count, start, size);
             count = count + 1;

@@ -34,7 +34,7 @@ enum-told : tie.Need-enum-told
 enum-told c = search needs
 
 emit-chunk-requires : tie.Need-emit-chunk-requires
-emit-chunk-requires c κs = 
+emit-chunk-requires c κs =
     let compared = c .before .before .before .before .before .before .before .before in
     let p = start compared .pre in
     (whole-room (p .0) (p .1 .some), whole-number (p .0) (p .1 .some))
@@ -58,7 +58,7 @@ same-length-6 : tie.Need-same-length-6
 same-length-6 c = search needs
 
 returns : tie.Need-returns
-returns c = 
+returns c =
     let emitted = c .before .before .before .before .before .before .before .before .before .before in
     let told = emitted .before .before .before .before .before .before .before in
     let compared = told .before .before in
@@ -69,7 +69,7 @@ in-id-order-requires : tie.Need-in-id-order-requires
 in-id-order-requires c κs = search needs
 
 emit-oversized-requires : tie.Need-emit-oversized-requires
-emit-oversized-requires c κs = 
+emit-oversized-requires c κs =
     let ordered = c .before .before .before .before .before .before .before .before in
     let s = start (ordered .before .before .before .before .before) in
     order-ready (s .pre .0) (s .pre .1 .some) (ordered .in-id-order .ensures) (s .pre .1 .whole)
@@ -93,7 +93,7 @@ same-length-12 : tie.Need-same-length-12
 same-length-12 c = search needs
 
 returns-2 : tie.Need-returns-2
-returns-2 c = 
+returns-2 c =
     let called = c .before .before .before .before .before .before .before .before .before .before in
     let ordered = called .before .before .before .before .before .before .before .before .before in
     let over = ordered .before .before .before in

@@ -12,13 +12,19 @@ array-borrow-prefix-similar : tie.Need-array-borrow-prefix-similar
 array-borrow-prefix-similar c = search needs
 
 slice-aggregate-emit-pieces : tie.Need-slice-aggregate-emit-pieces
-slice-aggregate-emit-pieces c = let h : length (c .before .before .before .before .before .before .before .before .before .before .before .before .before .before .before .before .before .args .order .now) ≤ 256 = omega arith in sym (length-take-le _ _ h)
+slice-aggregate-emit-pieces c =
+    let s = c .before .before .before .before .before .before .before .before .before .before .before .before .before .before .before .before .before in
+    let h : length (s .args .order .now) ≤ 256 = omega arith in
+    sym (length-take-le _ _ h)
 
 array-borrow-prefix-sums : tie.Need-array-borrow-prefix-sums
 array-borrow-prefix-sums c = search needs
 
 slice-aggregate-emit-pieces-2 : tie.Need-slice-aggregate-emit-pieces-2
-slice-aggregate-emit-pieces-2 c = let h : length (c .before .before .before .before .before .before .before .before .before .before .before .before .before .before .before .before .before .before .args .order .now) ≤ 256 = omega arith in sym (length-take-le _ _ h)
+slice-aggregate-emit-pieces-2 c =
+    let s = c .before .before .before .before .before .before .before .before .before .before .before .before .before .before .before .before .before .before in
+    let h : length (s .args .order .now) ≤ 256 = omega arith in
+    sym (length-take-le _ _ h)
 
 slice-aggregate-emit-pieces-3 : tie.Need-slice-aggregate-emit-pieces-3
 slice-aggregate-emit-pieces-3 c = search needs
@@ -27,8 +33,9 @@ slice-aggregate-emit-pieces-4 : tie.Need-slice-aggregate-emit-pieces-4
 slice-aggregate-emit-pieces-4 c = search needs
 
 emit-pieces-requires : tie.Need-emit-pieces-requires
-emit-pieces-requires c κs = 
-    let s = c .before .before .before .before .before .before .before .before .before .before .before .before .before .before .before .before .before .before .before .before in
+emit-pieces-requires c κs =
+    let lent = c .before .before .before .before in
+    let s = lent .before .before .before .before .before .before .before .before .before .before .before .before .before .before .before .before in
     let h : length (s .args .order .now) ≤ 256 = omega arith in
     (s .pre, record { similar-length = length-take-le _ _ h; sums-length = length-take-le _ _ h; starts-room = h; totals-room = h })
 
@@ -54,13 +61,17 @@ array-borrow-prefix-similar-2 : tie.Need-array-borrow-prefix-similar-2
 array-borrow-prefix-similar-2 c = search needs
 
 slice-aggregate-emit-pieces-5 : tie.Need-slice-aggregate-emit-pieces-5
-slice-aggregate-emit-pieces-5 c = sym (length-take-le _ _ (c .before .before .before .before .before .before .before .before .before .before .before .before .before .before .before .before .before .pre .pending .few))
+slice-aggregate-emit-pieces-5 c =
+    let s = c .before .before .before .before .before .before .before .before .before .before .before .before .before .before .before .before .before in
+    sym (length-take-le _ _ (s .pre .pending .few))
 
 array-borrow-prefix-sums-2 : tie.Need-array-borrow-prefix-sums-2
 array-borrow-prefix-sums-2 c = search needs
 
 slice-aggregate-emit-pieces-6 : tie.Need-slice-aggregate-emit-pieces-6
-slice-aggregate-emit-pieces-6 c = sym (length-take-le _ _ (c .before .before .before .before .before .before .before .before .before .before .before .before .before .before .before .before .before .before .pre .pending .few))
+slice-aggregate-emit-pieces-6 c =
+    let s = c .before .before .before .before .before .before .before .before .before .before .before .before .before .before .before .before .before .before in
+    sym (length-take-le _ _ (s .pre .pending .few))
 
 slice-aggregate-emit-pieces-7 : tie.Need-slice-aggregate-emit-pieces-7
 slice-aggregate-emit-pieces-7 c = search needs
@@ -69,8 +80,9 @@ slice-aggregate-emit-pieces-8 : tie.Need-slice-aggregate-emit-pieces-8
 slice-aggregate-emit-pieces-8 c = search needs
 
 emit-pieces-requires-2 : tie.Need-emit-pieces-requires-2
-emit-pieces-requires-2 c κs = 
-    let s = c .before .before .before .before .before .before .before .before .before .before .before .before .before .before .before .before .before .before .before .before in
+emit-pieces-requires-2 c κs =
+    let lent = c .before .before .before .before in
+    let s = lent .before .before .before .before .before .before .before .before .before .before .before .before .before .before .before .before in
     let h = s .pre .pending .few in
     (s .pre, record { similar-length = length-take-le _ _ h; sums-length = length-take-le _ _ h; starts-room = h; totals-room = h })
 

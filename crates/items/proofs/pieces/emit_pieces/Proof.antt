@@ -11,7 +11,7 @@ use Rattle.items.proofs.pieces.emit_pieces.Tie as tie
 -- ---- what is known once the modules are cut
 
 abbrev start : tie.After-split-oversized → tie.Start
-start c = c .before .before .before .before .before .before .before .before .before .before .before .before .before .before .before .before .before .before .before
+start c = let called = c .before .before .before .before .before .before .before .before .before .before in called .before .before .before .before .before .before .before .before .before
 
 -- the pieces fit the first area
 fits : (c : tie.After-split-oversized) → c .split-oversized .result ≤ length (c .split-oversized .last .1 .1 .1 .1 .1 .1 .1 .1 .1 .0)
@@ -37,7 +37,7 @@ slice-aggregate-emit-parts-2 : tie.Need-slice-aggregate-emit-parts-2
 slice-aggregate-emit-parts-2 c = sym (length-take-le _ _ (sizes-fit (c .before .before .before .before .before .before .before .before .before .before)))
 
 emit-parts-requires : tie.Need-emit-parts-requires
-emit-parts-requires c κs = 
+emit-parts-requires c κs =
     let split = c .before .before .before .before .before .before .before .before .before .before .before .before .before .before .before in
     let s = start split in
     let k = split .split-oversized .ensures in
@@ -71,7 +71,7 @@ same-length-9 : tie.Need-same-length-9
 same-length-9 c = search needs
 
 returns : tie.Need-returns
-returns c = 
+returns c =
     let emitted = c .before .before .before .before .before .before .before .before .before .before in
     let split = emitted .before .before .before .before .before .before .before .before .before .before .before .before .before .before .before .before in
     let s = start split in

@@ -56,8 +56,7 @@ loop-again : tie.Need-loop-again Inv-loop μ-loop
 loop-again c =
     let l = c .before .before .before .before .loop in
     let a = c .before .before .before .before .before .before .before .before .before .args in
-    let f : ℕ → ℕ = λ k. alike (a .bytes .now) (a .offsets .now) (getD (a .order .now) (k - 1) 0) (getD (a .order .now) k 0) in
-    (
+    let f : ℕ → ℕ = λ k. alike (a .bytes .now) (a .offsets .now) (getD (a .order .now) (k - 1) 0) (getD (a .order .now) k 0) in (
       omega arith,
       simp length-set (l .inv .1),
       one-filled 0 f 1 (l .similar) (l .i) (c .similarity-between .result) (omega arith) (c .similarity-between .ensures) (l .inv .2),

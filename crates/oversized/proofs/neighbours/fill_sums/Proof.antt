@@ -48,8 +48,7 @@ loop-again c =
     let l = c .before .before .loop in
     let a = c .before .before .before .before .before .before .args in
     let all = sizesIn (a .sizes .now) (a .order .now) in
-    let h : l .i < length all = omega (arith, length-sizes (a .sizes .now) (a .order .now)) in
-    (
+    let h : l .i < length all = omega (arith, length-sizes (a .sizes .now) (a .order .now)) in (
       omega arith,
       simp length-set (l .inv .1),
       one-filled nan (λ k. sumF64 (take k all)) 0 (l .sums) (l .i) (l .sum) (omega arith) (l .inv .3) (l .inv .2),

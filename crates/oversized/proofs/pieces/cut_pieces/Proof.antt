@@ -162,8 +162,7 @@ loop-again c =
     let f = c .before .before .before .before .before .before .before in
     let d = f .before .before .before .before .before .before .before in
     let v = d .before .loop .inv in
-    let e = c .before .before .before .before .end-piece .ensures in
-    (
+    let e = c .before .before .before .before .end-piece .ensures in (
       λ m. rw (e .begins, e .sized) (area-taken m _ _ (v .0 m) (inside d)
           (area-answer m _ _ (v .0 m) (inside d) none
           (λ k. sym (ap chosenOf (f .enum-told .given .1)) ∙ f .before .before .cut-within .ensures k))),
@@ -219,8 +218,7 @@ loop-again-2 c =
     let d = f .before .before .before .before .before .before .before in
     let v = d .before .loop .inv in
     let p = f .answer .given .0 .0 in
-    let e = c .before .before .before .before .push-pieces .ensures in
-    (
+    let e = c .before .before .before .before .push-pieces .ensures in (
       λ m. rw (e .begins, e .sized) (area-cut m _ _ (v .0 m) (inside d) (p .index) (p .«left_size») (p .«right_size»)
           (area-answer m _ _ (v .0 m) (inside d) (cut (p .index) (p .«left_size») (p .«right_size»))
           (λ k. sym (ap chosenOf (f .answer .given .1)) ∙ f .before .before .cut-within .ensures k))),
