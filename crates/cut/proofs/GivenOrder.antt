@@ -1,56 +1,43 @@
--- The order in which the modules are given: the numbers from 0 on. Over it the sizes and the ids are those of the tables.
-use Prim.Native.Nat.{ℕ, _^_, _≤_, _<_}
-use mathlib.Core.List.{List, _++_}
-use mathlib.Core.Path.{_≡_, sym, ap, _∙_}
+-- Modules in the order given: each has an id and a size that a double holds, and the cut at a place is the definition's.
+use Prim.Native.Nat.{ℕ, _+_, _-_, _≤_, _<_}
+use mathlib.Core.List.{List, []}
+use mathlib.Core.Path.{_≡_, sym, ap, ap₂, _∙_}
 use native.Mathlib.Nat.{zero-add}
 use native.Mathlib.Omega.{arith}
 use lib.Ieee.{Float}
-use lib.ListN.{length, getD, take, drop, length-append}
-use lib.Seq.{length-take-le, take-at}
+use lib.ListN.{length, getD, take, drop, length-map}
 use Rattle.lists.specs.Range.{range}
-use Rattle.lists.specs.Sum.{sum}
+use Rattle.lists.proofs.Map.{getD-map-below}
 use Rattle.lists.proofs.Range.{length-range, getD-range}
-use Rattle.lists.proofs.Map.{map-getD-range}
-use Rattle.ids.specs.Parts.{idsOf}
-use Rattle.cut.specs.Cut.{cutOf}
-use Rattle.cut.specs.Order.{sizesIn, idsIn, Cuttable}
-use Rattle.cut.proofs.Refusals.{Passed}
+use Rattle.whole.specs.Double.{sumF64}
+use Rattle.ids.specs.Parts.{idAt, idsOf}
+use Rattle.similarity.specs.Similarity.{similarity}
+use Rattle.cut.specs.Candidate.{candidateAt}
+use Rattle.cut.specs.Order.{alike, NamedPair, GivenOrder}
+use Rattle.cut.specs.declared.candidate.Candidate.{Candidate}
 
--- the first n of an area that were filled with the numbers from 0 on
-module _ (area filled : List ℕ) (n : ℕ) (fits : n ≤ length area) (e : filled ≡ range 0 (length (take n area))) where
-  filled-is : filled ≡ range 0 n
-  filled-is = e ∙ ap (range 0) (length-take-le n area fits)
+pub length-given : (n : ℕ) (bytes offsets : List ℕ) → length (idsOf n bytes offsets) ≡ n
+unfolding idsOf
+length-given n bytes offsets = length-map (range 0 n) (idAt bytes offsets) ∙ length-range 0 n
 
-  filled-length : length filled ≡ n
-  filled-length = ap length filled-is ∙ length-range 0 n
+id-given : (n : ℕ) (bytes offsets : List ℕ) (i : ℕ) → i < n → getD (idsOf n bytes offsets) i [] ≡ idAt bytes offsets i
+unfolding idsOf
+id-given n bytes offsets i h =
+    let within : i < length (range 0 n) = rw length-range h in
+    getD-map-below (idAt bytes offsets) (range 0 n) i [] 0 within ∙ ap (idAt bytes offsets) (getD-range 0 n i 0 h ∙ zero-add i)
 
-  pub given-order : take n (filled ++ drop n area) ≡ range 0 n
-  given-order = take-at filled (drop n area) n filled-length ∙ filled-is
+module _ (bytes offsets sizes : List ℕ) (i : ℕ) (from : 1 ≤ i) (inside : i < length sizes) where
+  pub pair-given : GivenOrder bytes offsets sizes → NamedPair bytes offsets (i - 1) i
+  pair-given t = record { good = t .good; has-before = omega (arith, t .all-offsets); has-after = omega (arith, t .all-offsets) }
 
-  pub given-fits : n ≤ length (filled ++ drop n area)
-  given-fits = omega (arith, length-append filled (drop n area), filled-length)
-
-  pub given-length : n ≡ length (take n (filled ++ drop n area))
-  given-length = sym (ap length given-order ∙ length-range 0 n)
-
--- ---- the tables over that order
-
-module _ (n : ℕ) (bytes offsets sizes : List ℕ) (t : Passed n bytes offsets sizes) where
-  pub sizes-given : sizesIn sizes (range 0 n) ≡ sizes
-  sizes-given = rw (← t .all-sizes) (map-getD-range sizes 0)
-
-  place : (i : ℕ) → i < length (range 0 n) → (getD (range 0 n) i 0 ≡ i) × (i < n)
-  place i h = let b : i < n = rw length-range at h in (getD-range 0 n i 0 b ∙ zero-add i, b)
-
-  pub cuttable : sum sizes ≤ 2 ^ 53 → Cuttable bytes offsets sizes (range 0 n)
-  cuttable small =
-      record {
-        sized = record { has-size = λ i h. let p = place i h in omega arith; exact = rw sizes-given small };
-        named = record { good = t .good; has-id = λ i h. let p = place i h in omega arith };
-      }
-
-  -- the cut over that order is that of the ids and sizes as they are given
-  pub cut-given : (minimum maximum : Float)
-      → cutOf (idsIn bytes offsets (range 0 n)) (sizesIn sizes (range 0 n)) minimum maximum ≡ cutOf (idsOf n bytes offsets) sizes minimum maximum
-  unfolding idsOf
-  cut-given minimum maximum = ap (λ (l : List ℕ). cutOf (idsIn bytes offsets (range 0 n)) l minimum maximum) sizes-given
+  -- a place whose sides have the sizes of the two parts is the definition's
+  pub place-given : (left right : Float) → left ≡ sumF64 (take i sizes) → right ≡ sumF64 (drop i sizes)
+      → record { index = i; similarity = alike bytes offsets (i - 1) i; left = left; right = right }
+      ≡ candidateAt (idsOf (length sizes) bytes offsets) sizes i
+  unfolding candidateAt
+  place-given left right p q =
+      let place : ℕ → Float → Float → Candidate = λ s l r. record { index = i; similarity = s; left = l; right = r } in
+      let last = id-given (length sizes) bytes offsets (i - 1) (omega arith) in
+      let first = id-given (length sizes) bytes offsets i inside in
+      ap (λ (s : ℕ). place s left right) (sym (ap₂ similarity last first))
+      ∙ ap₂ (place (similarity (getD (idsOf (length sizes) bytes offsets) (i - 1) []) (getD (idsOf (length sizes) bytes offsets) i []))) p q

@@ -1,4 +1,4 @@
--- The sizes and the ids of modules in an order of their own: each module of the order has a size that a double holds, and an id within the limit.
+-- The sizes and the ids of modules in an order of their own: each module of the order has a size that a double holds.
 use Prim.Native.Nat.{ℕ, suc, _^_, _≤_, _<_}
 use mathlib.Core.List.{List, []}
 use mathlib.Core.Path.{_≡_}
@@ -10,10 +10,8 @@ use lib.ListN.{length, getD, length-map}
 use Rattle.lists.specs.Sum.{sum}
 use Rattle.lists.proofs.Map.{getD-map-below}
 use Rattle.lists.proofs.Sum.{sum-take-suc, sum-take-le}
-use Rattle.ids.specs.Parts.{idAt, InTable}
-use Rattle.ids.specs.Offsets.{idLimit}
-use Rattle.ids.proofs.IdParts.{in-table, id-length}
-use Rattle.cut.specs.Order.{sizesIn, idsIn, Sized, Named}
+use Rattle.ids.specs.Parts.{idAt}
+use Rattle.cut.specs.Order.{sizesIn, idsIn, Sized}
 
 -- ---- sizes
 
@@ -23,28 +21,22 @@ one-of-sum l i h = omega (arith, sum-take-suc l i h, sum-take-le (suc i) l)
 pub length-sizes : (sizes order : List ℕ) → length (sizesIn sizes order) ≡ length order
 length-sizes sizes order = length-map order (λ k. getD sizes k 0)
 
+-- a size is at most 2^53, so that a double holds it
+pub held : (l : List ℕ) (i : ℕ) → i < length l → sum l ≤ 2 ^ 53 → T (inFloat binary64 (pos (getD l i 0)))
+unfolding inFloat
+held l i h exact = le→leb (getD l i 0) (2 ^ 53) (omega (arith, one-of-sum l i h))
+
 module _ (sizes order : List ℕ) (i : ℕ) (h : i < length order) where
   pub size-in : getD (sizesIn sizes order) i 0 ≡ getD sizes (getD order i 0) 0
   size-in = getD-map-below (λ k. getD sizes k 0) order i 0 0 h
 
-  -- a size is at most 2^53, so that a double holds it
   pub size-held : Sized sizes order → T (inFloat binary64 (pos (getD sizes (getD order i 0) 0)))
-  unfolding inFloat
-  size-held s =
-      let small : getD sizes (getD order i 0) 0 ≤ 2 ^ 53 = omega (arith, size-in, one-of-sum (sizesIn sizes order) i (rw length-sizes h), s .exact) in
-      le→leb (getD sizes (getD order i 0) 0) (2 ^ 53) small
+  size-held s = rw (← size-in) (held (sizesIn sizes order) i (rw length-sizes h) (s .exact))
 
 -- ---- ids
 
 pub length-ids : (bytes offsets order : List ℕ) → length (idsIn bytes offsets order) ≡ length order
 length-ids bytes offsets order = length-map order (idAt bytes offsets)
 
-module _ (bytes offsets order : List ℕ) (named : Named bytes offsets order) (i : ℕ) (h : i < length order) where
-  pub id-in : getD (idsIn bytes offsets order) i [] ≡ idAt bytes offsets (getD order i 0)
-  id-in = getD-map-below (idAt bytes offsets) order i [] 0 h
-
-  pub id-in-table : InTable bytes offsets (getD order i 0)
-  id-in-table = in-table idLimit bytes offsets (getD order i 0) (named .good) (named .has-id i h)
-
-  pub id-short : length (idAt bytes offsets (getD order i 0)) ≤ 1024
-  id-short = id-length idLimit bytes offsets (getD order i 0) (named .good) (named .has-id i h)
+pub id-in : (bytes offsets order : List ℕ) (i : ℕ) → i < length order → getD (idsIn bytes offsets order) i [] ≡ idAt bytes offsets (getD order i 0)
+id-in bytes offsets order i h = getD-map-below (idAt bytes offsets) order i [] 0 h

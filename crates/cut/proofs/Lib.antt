@@ -8,3 +8,4 @@ pub mod Kept
 pub mod Answer
 pub mod Refusals
 pub mod GivenOrder
+pub mod FromTables

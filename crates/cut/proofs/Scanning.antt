@@ -2,19 +2,17 @@
 -- Each turn looks at one place more.
 use Prim.Native.Nat.{ℕ, suc, _+_, _-_, _≤_}
 use mathlib.Core.Bool.{Bool, true, false, cond}
-use mathlib.Core.List.{List, [], _∷_, _++_, foldl, map}
-use mathlib.Core.Path.{_≡_, refl, sym, ap, ap₂, _∙_}
+use mathlib.Core.List.{List, [], _∷_, foldl, map, map-append}
+use mathlib.Core.Path.{_≡_, refl, sym, ap, _∙_}
 use native.Mathlib.Omega.{arith}
-use lib.Ieee.{Float}
-use lib.ListN.{length, take, drop}
+use lib.ListN.{length}
 use Rattle.lists.specs.Range.{range}
 use Rattle.lists.specs.Keep.{keep, keepHead}
 use Rattle.lists.proofs.Range.{range-snoc}
 use Rattle.lists.proofs.Fold.{foldl-append}
-use Rattle.whole.specs.Double.{sumF64}
 use Rattle.cut.specs.Candidate.{candidateAt, allowed}
 use Rattle.cut.specs.Cut.{better, pick, allowedCuts, cutOf}
-use Rattle.cut.specs.Scan.{replaced, considered, placed, chosenFrom}
+use Rattle.cut.specs.Scan.{replaced, considered, chosenFrom}
 use Rattle.cut.specs.declared.candidate.Candidate.{Candidate}
 use Rattle.cut.specs.declared.scan.Best.{Best}
 use Rattle.cut.specs.declared.scan.Best.the-variants.{Nothing, Found}
@@ -63,10 +61,6 @@ scan-cuts b ids sizes k e =
 
 -- ---- one place more
 
-map-append : {A B : Type 0} (f : A → B) (l m : List A) → map f (l ++ m) ≡ map f l ++ map f m
-map-append f [] m = refl
-map-append f (x ∷ l) m = ap (λ t. f x ∷ t) (map-append f l m)
-
 place-more : (b : Bounds) (f : ℕ → Candidate) (k : ℕ)
     → foldl (considered b) Nothing (map f (range 1 (suc k))) ≡ considered b (foldl (considered b) Nothing (map f (range 1 k))) (f (1 + k))
 place-more b f k =
@@ -83,9 +77,3 @@ looked-at b f i h =
     ap (λ (n : ℕ). considered b (foldl (considered b) Nothing (map f (range 1 (i - 1)))) (f n)) (sym here)
     ∙ sym (place-more b f (i - 1))
     ∙ ap (λ (n : ℕ). foldl (considered b) Nothing (map f (range 1 n))) next
-
--- a place whose sides have the sizes of the two parts is the definition's
-pub placed-at : (ids : List (List ℕ)) (sizes : List ℕ) (i : ℕ) (left right : Float) → left ≡ sumF64 (take i sizes) → right ≡ sumF64 (drop i sizes)
-    → placed ids (record { left = left; right = right }) i ≡ candidateAt ids sizes i
-unfolding candidateAt
-placed-at ids sizes i left right p q = ap₂ (λ (l r : Float). placed ids (record { left = l; right = r }) i) p q

@@ -3,4 +3,5 @@ pub mod Candidate
 pub mod Cut
 pub mod Order
 pub mod Scan
+pub mod Tables
 pub mod Call

@@ -1,6 +1,10 @@
 // The cut of an oversized list of modules in two, by relevance of their ids and then by size.
+pub mod alike;
 pub mod candidate;
+pub mod given;
 pub mod scan;
+pub mod sizes;
+pub mod tabled;
 
 ghost use mathlib.Core.Path.{_≡_};
 ghost use Rattle.cut.specs.Call.{cutCall, outcomeOf};
@@ -54,7 +58,5 @@ pub fn pick_relevance_split_index(
     if limit::is_nan(maximum) {
         return CutAnswer::Refused(refusal::NAN);
     }
-    let mut order = [0u32; 4096];
-    lists::fill_range(&mut order[..n]);
-    CutAnswer::Answered(scan::pick_in_order(bytes, offsets, sizes, &order[..n], minimum, maximum))
+    CutAnswer::Answered(given::pick_given(bytes, offsets, sizes, minimum, maximum))
 }

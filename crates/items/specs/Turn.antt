@@ -13,7 +13,7 @@ use Rattle.limit.specs.declared.Limit.the-variants.{Absent, Given}
 use Rattle.cut.specs.Order.{sizesIn, Cuttable}
 use Rattle.settling.specs.Pieces.{piecesOf}
 use Rattle.oversized.specs.InOrder.{byRank, Ranked}
-use Rattle.oversized.specs.Cutting.{cuttingOf}
+use Rattle.oversized.specs.Cutting.{cuttingOf, Pending}
 use Rattle.emitting.specs.declared.emit.Head.{Head}
 use Rattle.emitting.specs.Emitted.{Work, Emission, withChunks, Room, HasEntry}
 use Rattle.items.specs.declared.convert.Limits.{Limits}
@@ -34,11 +34,14 @@ pub record Tables : Type 0 where
 abbrev pub chunkOf : List ℕ → Head → List ℕ → Emission
 chunkOf sizes head modules = record { head = head; modules = modules; size = sumF64 (sizesIn sizes modules) }
 
+-- a chunk for each piece of modules in id order
+abbrev pub chunksOf : List ℕ → List ℕ → List ℕ → Head → Float → Float → List ℕ → List Emission
+chunksOf bytes offsets sizes head minimum maximum order = map (chunkOf sizes head) (piecesOf (cuttingOf bytes offsets sizes minimum maximum) order)
+
 -- the pieces of modules above the maximum
 unfoldable pub inPieces : Tables → Head → Float → Float → List ℕ → List Emission
 unfolding piecesOf byRank sumF64
-inPieces t head minimum maximum modules =
-    map (chunkOf (t .sizes) head) (piecesOf (cuttingOf (t .bytes) (t .offsets) (t .sizes) minimum maximum) (byRank (t .rank) modules))
+inPieces t head minimum maximum modules = chunksOf (t .bytes) (t .offsets) (t .sizes) head minimum maximum (byRank (t .rank) modules)
 
 -- the maximum, where a size is strictly above it
 abbrev pub overIf : Bool → Float → Limit
@@ -92,6 +95,12 @@ pub record ItemReady (t : Tables) (bits modules : List ℕ) (w : Work) (number a
 pub record Totalled (sizes modules : List ℕ) (total : Float) : Type 0 where
   pub some : 1 ≤ length modules
   pub whole : total ≡ sumF64 (sizesIn sizes modules)
+
+-- what modules in id order ask that are emitted in pieces: they can be cut, and there are a number and room for a record for each of them
+pub record PiecesReady (bytes offsets sizes order : List ℕ) (total : Float) (bits : List ℕ) (w : Work) (number at : ℕ) : Type 0 where
+  pub pending : Pending bytes offsets sizes order total
+  pub room : (j : ℕ) → j < length order → Room bits order w (at + j)
+  pub numbers : number + length order < 2 ^ 32
 
 -- what an item on its turn leaves: so many chunks, and the areas with them
 pub record Converted (es : List Emission) (bits : List ℕ) (number at count : ℕ) (before after : Work) : Type 0 where

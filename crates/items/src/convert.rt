@@ -1,104 +1,20 @@
 // An item turned into chunks.
 use crate::left::keep_left;
-use cut::scan::total_size;
+use crate::pieces::emit_oversized;
+use cut::sizes::total_size;
 use emitting::emit::Head;
 use emitting::emit::emit_chunk;
-use emitting::emit::emit_parts;
 use index::ChunkIdx;
 use limit::Limit;
 use oversized::order::in_id_order;
-use oversized::pieces::split_oversized;
 ghost use mathlib.Core.Path.{_≡_};
 ghost use lib.ListN.{length};
-ghost use Rattle.items.specs.Turn.{untaken, overLimit, inPieces, emittedWithin, emittedFrom, Listed, ItemReady, Totalled, Converted};
+ghost use Rattle.items.specs.Turn.{untaken, overLimit, emittedWithin, emittedFrom, Listed, ItemReady, Totalled, Converted};
 
 // The two limits in force for the size of a chunk.
 pub struct Limits {
     pub minimum: f64,
     pub maximum: Limit,
-}
-
-// Emits the pieces of modules above the maximum, or all of them if no cut is allowed.
-fn emit_oversized(
-    head: Head,
-    total: f64,
-    minimum: f64,
-    maximum: f64,
-    sizes: &[u64],
-    bits: &[u64],
-    bytes: &[u8],
-    offsets: &[u32],
-    rank: &[u32],
-    number: ChunkIdx,
-    at: usize,
-    members: &mut [u32],
-    chunk_of: &mut [u32],
-    group_of: &mut [u32],
-    name_of: &mut [u32],
-    size_of: &mut [f64],
-    bits_of: &mut [u64],
-) -> usize
-    requires { ⌜ ItemReady (record {
-      bytes = now bytes;
-      offsets = now offsets;
-      sizes = now sizes;
-      rank = now rank;
-    }) (now bits) (now members) (record {
-      chunk-of = now «chunk_of»;
-      group-of = now «group_of»;
-      name-of = now «name_of»;
-      size-of = now «size_of»;
-      bits-of = now «bits_of»;
-    }) (number .0) at ⌝ }
-    requires { ⌜ Totalled (now sizes) (now members) total ⌝ }
-    ensures { λ r. ⌜ Converted (inPieces (record {
-      bytes = now (bytes .entry);
-      offsets = now (offsets .entry);
-      sizes = now (sizes .entry);
-      rank = now (rank .entry);
-    }) head minimum maximum (now (members .entry))) (now (bits .entry)) (number .0) at r (record {
-      chunk-of = now («chunk_of» .entry);
-      group-of = now («group_of» .entry);
-      name-of = now («name_of» .entry);
-      size-of = now («size_of» .entry);
-      bits-of = now («bits_of» .entry);
-    }) (record {
-      chunk-of = now («chunk_of» .exit);
-      group-of = now («group_of» .exit);
-      name-of = now («name_of» .exit);
-      size-of = now («size_of» .exit);
-      bits-of = now («bits_of» .exit);
-    }) ⌝ }
-{
-    let mut starts = [0u32; 4096];
-    let mut piece_sizes = [0.0f64; 4096];
-    in_id_order(rank, members);
-    let count = split_oversized(
-        bytes,
-        offsets,
-        sizes,
-        members,
-        total,
-        minimum,
-        maximum,
-        &mut starts,
-        &mut piece_sizes,
-    );
-    emit_parts(
-        head,
-        members,
-        &starts[..count],
-        &piece_sizes[..count],
-        bits,
-        number,
-        at,
-        chunk_of,
-        group_of,
-        name_of,
-        size_of,
-        bits_of,
-    );
-    count
 }
 
 // The maximum, if the size is strictly above it.
@@ -184,6 +100,7 @@ fn emit_item(
         );
         return 1;
     };
+    in_id_order(rank, members);
     emit_oversized(
         head,
         total,
@@ -193,10 +110,9 @@ fn emit_item(
         bits,
         bytes,
         offsets,
-        rank,
+        members,
         number,
         at,
-        members,
         chunk_of,
         group_of,
         name_of,

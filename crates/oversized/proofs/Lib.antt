@@ -1,6 +1,9 @@
 -- The laws of the definitions of specs/, and what holds on each turn of the loop that cuts.
 pub mod Mapped
+pub mod Filled
 pub mod Stored
 pub mod Totals
-pub mod PartCuttable
+pub mod PartTabled
+pub mod Backwards
 pub mod Turn
+pub mod Areas

@@ -6,7 +6,7 @@ use native.Mathlib.Numerals.{add-one}
 use native.Mathlib.Omega.{arith}
 use lib.Ieee.{Float}
 use lib.ListN.{length, set, take, length-append}
-use lib.Seq.{take-suc-set}
+use lib.Seq.{take-suc-set, take-set-le}
 use Rattle.whole.specs.Double.{sumF64}
 use Rattle.cut.specs.Order.{sizesIn}
 use Rattle.oversized.specs.Cutting.{startsFrom, sizesOf}
@@ -44,6 +44,19 @@ module _ (sizes : List ℕ) (whole : ℕ) where
   pub none-stored : (starts : List ℕ) (totals : List Float) → Stored sizes whole [] whole 0 starts totals
   unfolding restOf startsFrom sizesOf
   none-stored starts totals = record { number = refl; begins = refl; sized = refl; ends = refl; room = omega arith }
+
+  -- what lies past the finished pieces is free
+  pub stored-past : {found : List (List ℕ)} {end count : ℕ} {starts : List ℕ} {totals : List Float} → Stored sizes whole found end count starts totals
+      → (i v : ℕ) → count ≤ i → (j k : ℕ) (x y : Float) → count ≤ j → count ≤ k
+      → Stored sizes whole found end count (set starts i v) (set (set totals j x) k y)
+  stored-past {found} {end} {count} {starts} {totals} s i v h j k x y p q =
+      record {
+        number = s .number;
+        begins = take-set-le count starts i v h ∙ s .begins;
+        sized = take-set-le count (set totals j x) k y q ∙ take-set-le count totals j x p ∙ s .sized;
+        ends = s .ends;
+        room = s .room;
+      }
 
   module _ (found : List (List ℕ)) (end count : ℕ) (starts : List ℕ) (totals : List Float) (s : Stored sizes whole found end count starts totals)
       (p : List ℕ) (start : ℕ) (size : Float) (at : end - length p ≡ start) (is : size ≡ sumF64 (sizesIn sizes p)) (some : start < end) where

@@ -23,7 +23,7 @@ module _ (sizes l : List ℕ) (d : Float) where
 
   -- ---- what stands above the stack doesn't matter
 
-  starts-set : (v k : ℕ) (starts : List ℕ) (totals : List Float) (end depth : ℕ) → depth ≤ k → Totalled starts totals end depth
+  pub starts-set : (v k : ℕ) (starts : List ℕ) (totals : List Float) (end depth : ℕ) → depth ≤ k → Totalled starts totals end depth
       → Totalled (set starts k v) totals end depth
   unfolding Totalled
   starts-set v k starts totals end zero h t = tt
@@ -31,7 +31,7 @@ module _ (sizes l : List ℕ) (d : Float) where
       let same : getD (set starts k v) depth 0 ≡ getD starts depth 0 = getD-set-other starts k depth v 0 (omega arith) in
       rw same (t .0, starts-set v k starts totals (getD starts depth 0) depth (omega arith) (t .1))
 
-  totals-set : (v : Float) (k : ℕ) (starts : List ℕ) (totals : List Float) (end depth : ℕ) → depth ≤ k → Totalled starts totals end depth
+  pub totals-set : (v : Float) (k : ℕ) (starts : List ℕ) (totals : List Float) (end depth : ℕ) → depth ≤ k → Totalled starts totals end depth
       → Totalled starts (set totals k v) end depth
   unfolding Totalled
   totals-set v k starts totals end zero h t = tt

@@ -1,5 +1,5 @@
 -- What holds on each turn of the loop that cuts modules in id order into pieces, and that one look keeps it: the part on top is finished or cut.
-use Prim.Native.Nat.{ℕ, _+_, _-_, _*_, _≤_, _<_}
+use Prim.Native.Nat.{ℕ, _+_, _-_, _≤_, _<_}
 use mathlib.Core.Bool.{Bool, true, false, cond}
 use mathlib.Core.List.{List, [], _∷_, _++_}
 use mathlib.Core.Path.{_≡_, refl, sym, ap, ap₂, _∙_}
@@ -11,17 +11,16 @@ use lib.Seq.{slice, length-slice, drop-drop}
 use Rattle.lists.proofs.Parts.{slice-part, slice-slice, map-take, map-drop}
 use Rattle.whole.specs.Double.{sumF64}
 use Rattle.cut.specs.Cut.{Chosen, none, cut}
-use Rattle.cut.specs.Order.{sizesIn, Cuttable}
+use Rattle.cut.specs.Order.{sizesIn, idsIn}
 use Rattle.cut.proofs.Answer.{there-is-a-cut}
 use Rattle.settling.specs.Pieces.{Cutting, cutIn, piecesOf}
 use Rattle.settling.proofs.PieceBound.{tooLarge}
-use Rattle.settling.proofs.RangeStack.{topOf}
+use Rattle.settling.proofs.RangeStack.{topOf, pending-set, rises-set}
 use Rattle.settling.proofs.RangePieces.{Looking, topPart, looking-start, looking-end, top-below, top-deep, looking-small, looking-uncut}
-use Rattle.settling.proofs.RangePieces.{cut-below, cut-room, looking-cut, cut-less, taken-less}
-use Rattle.oversized.specs.Cutting.{cuttingOf, cutWithin, Pending, Cutted, startsFrom, sizesOf}
-use Rattle.oversized.proofs.PartCuttable.{cuttable-part}
+use Rattle.settling.proofs.RangePieces.{cut-from-one, cut-below, looking-cut}
+use Rattle.oversized.specs.Cutting.{cuttingOf, cutWithin, Cutted, startsFrom, sizesOf}
 use Rattle.oversized.proofs.Stored.{Stored, none-stored, one-stored}
-use Rattle.oversized.proofs.Totals.{Totalled, totalled-start, totalled-top, totalled-cut}
+use Rattle.oversized.proofs.Totals.{Totalled, starts-set, totals-set, totalled-start, totalled-top, totalled-cut}
 
 -- what one look at a part answers
 abbrev chosenIn : Cutting → List ℕ → Chosen
@@ -41,30 +40,50 @@ pub record Turn (bytes offsets sizes : List ℕ) (minimum maximum : Float) (l : 
   pub looking : Looking (cuttingOf bytes offsets sizes minimum maximum) l pending end depth found
   pub stored : Stored sizes (length l) found end count starts pieces
   pub totalled : Totalled sizes l nan pending totals end depth
-  pub starts-length : length pending ≡ 4096
-  pub totals-length : length totals ≡ 4096
+  pub totals-length : length l ≤ length totals
   pub starts-room : length l ≤ length starts
   pub sizes-room : length l ≤ length pieces
 
-pub turn-start : {bytes offsets sizes : List ℕ} {minimum maximum : Float} {l pending : List ℕ} {totals : List Float} {total : Float} {starts : List ℕ}
-    {pieces : List Float} → Pending bytes offsets sizes l total starts pieces → length pending ≡ 4096 → length totals ≡ 4096 → getD pending 0 0 ≡ 0
-    → getD totals 0 nan ≡ total → Turn bytes offsets sizes minimum maximum l pending totals 1 (length l) 0 starts pieces
-turn-start {bytes} {offsets} {sizes} {minimum} {maximum} {l} {pending} {totals} {total} {starts} {pieces} p m n e t =
+pub turn-start : {bytes offsets sizes : List ℕ} {minimum maximum : Float} {l pending : List ℕ} {totals : List Float} {starts : List ℕ} {pieces : List Float}
+    → 1 ≤ length l → length l ≤ length pending → length l ≤ length totals → length l ≤ length starts → length l ≤ length pieces
+    → getD pending 0 0 ≡ 0 → getD totals 0 nan ≡ sumF64 (sizesIn sizes l)
+    → Turn bytes offsets sizes minimum maximum l pending totals 1 (length l) 0 starts pieces
+turn-start {bytes} {offsets} {sizes} {minimum} {maximum} {l} {pending} {totals} {starts} {pieces} some m n r q e t =
     record {
       found = [];
-      looking = looking-start (cuttingOf bytes offsets sizes minimum maximum) l pending e (p .some) (omega (arith, p .few));
+      looking = looking-start (cuttingOf bytes offsets sizes minimum maximum) l pending e some m;
       stored = none-stored sizes (length l) starts pieces;
-      totalled = totalled-start sizes l nan pending totals e (t ∙ p .whole);
-      starts-length = m;
+      totalled = totalled-start sizes l nan pending totals e t;
       totals-length = n;
-      starts-room = p .starts-room;
-      sizes-room = p .totals-room;
+      starts-room = r;
+      sizes-room = q;
     }
 
 module _ {bytes offsets sizes : List ℕ} {minimum maximum : Float} {l pending : List ℕ} {totals : List Float} {depth end count : ℕ} {starts : List ℕ}
     {pieces : List Float} (t : Turn bytes offsets sizes minimum maximum l pending totals depth end count starts pieces) where
   abbrev c : Cutting
   c = cuttingOf bytes offsets sizes minimum maximum
+
+  -- what stands above the stack doesn't matter
+  pub turn-above : (k v : ℕ) (x : Float) → depth ≤ k
+      → Turn bytes offsets sizes minimum maximum l (set pending k v) (set totals k x) depth end count starts pieces
+  turn-above k v x h =
+      let q = t .looking in
+      record {
+        found = t .found;
+        looking =
+            record {
+              pieces = rw (pending-set v k l pending end depth h) (q .pieces);
+              rises = rises-set v k pending end depth h (q .rises);
+              within = q .within;
+              room = rw length-set (q .room);
+            };
+        stored = t .stored;
+        totalled = totals-set sizes l nan x k (set pending k v) totals end depth h (starts-set sizes l nan v k pending totals end depth h (t .totalled));
+        totals-length = rw length-set (t .totals-length);
+        starts-room = t .starts-room;
+        sizes-room = t .sizes-room;
+      }
 
   -- the stack is empty
   pub turn-end : depth ≡ 0 → Cutted (piecesOf c l) l sizes count starts pieces
@@ -87,14 +106,21 @@ module _ {bytes offsets sizes : List ℕ} {minimum maximum : Float} {l pending :
     pub turn-deep : depth ≤ end
     turn-deep = omega (arith, turn-below, top-deep c l pending end depth (t .found) some (t .looking))
 
-    pub turn-cuttable : Cuttable bytes offsets sizes l → Cuttable bytes offsets sizes part
-    turn-cuttable h = cuttable-part bytes offsets sizes l top (end - top) (omega (arith, turn-below, t .looking .within)) h
-
     on-top : getD totals (depth - 1) nan ≡ sumF64 (sizesIn sizes (topPart l pending end depth))
     on-top = totalled-top sizes l nan pending totals end depth some (t .totalled) .0
 
-    chosen : cutWithin bytes offsets sizes part (getD totals (depth - 1) nan) minimum maximum ≡ chosenIn c (topPart l pending end depth)
-    chosen = ap₂ (λ (k : List ℕ) (x : Float). cutWithin bytes offsets sizes k x minimum maximum) (sym (slice-part top end l)) on-top
+    -- its size stands beside its start
+    pub turn-size : getD totals (depth - 1) nan ≡ sumF64 (sizesIn sizes part)
+    turn-size = on-top ∙ ap (λ (k : List ℕ). sumF64 (sizesIn sizes k)) (slice-part top end l)
+
+    -- the answer of a look at it
+    abbrev pub Answered : Chosen → Type 0
+    Answered answer = answer ≡ cutWithin (idsIn bytes offsets part) (sizesIn sizes part) (getD totals (depth - 1) nan) minimum maximum
+
+    chosen : {answer : Chosen} → Answered answer → answer ≡ chosenIn c (topPart l pending end depth)
+    chosen a =
+        a
+        ∙ ap₂ (λ (k : List ℕ) (x : Float). cutWithin (idsIn bytes offsets k) (sizesIn sizes k) x minimum maximum) (sym (slice-part top end l)) on-top
 
     -- ---- no cut
 
@@ -106,7 +132,7 @@ module _ {bytes offsets sizes : List ℕ} {minimum maximum : Float} {l pending :
         go true e r = looking-uncut c l pending end depth (t .found) some (t .looking) r
         go false e r = looking-small c l pending end depth (t .found) some (t .looking) e
 
-    pub turn-taken : cutWithin bytes offsets sizes part (getD totals (depth - 1) nan) minimum maximum ≡ none
+    pub turn-taken : Answered none
         → Turn bytes offsets sizes minimum maximum l pending totals (depth - 1) top (count + 1)
         (set starts count top) (set pieces count (getD totals (depth - 1) nan))
     turn-taken q =
@@ -114,35 +140,30 @@ module _ {bytes offsets sizes : List ℕ} {minimum maximum : Float} {l pending :
         let long : length (topPart l pending end depth) ≡ end - top = length-slice top end l (t .looking .within) in
         record {
           found = t .found ++ (topPart l pending end depth ∷ []);
-          looking = uncut (sym chosen ∙ q);
+          looking = uncut (sym (chosen q));
           stored =
               one-stored sizes (length l) (t .found) end count starts pieces s (topPart l pending end depth) top (getD totals (depth - 1) nan)
               (omega (arith, turn-below)) on-top turn-below
               (omega (arith, turn-below, s .room, t .starts-room)) (omega (arith, turn-below, s .room, t .sizes-room));
           totalled = totalled-top sizes l nan pending totals end depth some (t .totalled) .1;
-          starts-length = t .starts-length;
           totals-length = t .totals-length;
           starts-room = rw length-set (t .starts-room);
           sizes-room = rw length-set (t .sizes-room);
         }
 
-    pub turn-taken-less : 2 * top - (depth - 1) < 2 * end - depth
-    turn-taken-less = taken-less c l pending end depth (t .found) some (t .looking)
-
-    pub turn-room : count < length l
-    turn-room = omega (arith, turn-below, t .stored .room)
-
     -- ---- a cut
 
-    module _ (i : ℕ) (left right : Float) (q : cutWithin bytes offsets sizes part (getD totals (depth - 1) nan) minimum maximum ≡ cut i left right) where
+    module _ (i : ℕ) (left right : Float) (q : Answered (cut i left right)) where
       here : (tooLarge c (topPart l pending end depth) ≡ true) × (cutIn c (topPart l pending end depth) ≡ cut i left right)
-      here = a-cut c (topPart l pending end depth) i left right (sym chosen ∙ q)
+      here = a-cut c (topPart l pending end depth) i left right (sym (chosen q))
 
       pub turn-middle : top + i < end
       turn-middle = cut-below c l pending end depth (t .found) some (t .looking) i left right (here .1)
 
-      pub turn-space : depth < 4096
-      turn-space = omega (arith, cut-room c l pending end depth (t .found) some (t .looking) i left right (here .1), t .starts-length)
+      pub turn-space : depth < end
+      turn-space =
+          let from-one = cut-from-one c l pending end depth (t .found) some (t .looking) i left right (here .1) in
+          omega (arith, turn-middle, from-one, top-deep c l pending end depth (t .found) some (t .looking))
 
       on-left : left ≡ sumF64 (sizesIn sizes (slice top (top + i) l))
       on-left =
@@ -166,12 +187,9 @@ module _ {bytes offsets sizes : List ℕ} {minimum maximum : Float} {l pending :
             stored = t .stored;
             totalled =
                 totalled-cut sizes l nan pending totals end depth (top + i) left right some
-                (omega (arith, turn-space, t .starts-length)) (omega (arith, turn-space, t .totals-length)) on-left on-right (t .totalled);
-            starts-length = rw length-set (t .starts-length);
+                (omega (arith, turn-space, t .looking .within, t .looking .room)) (omega (arith, turn-space, t .looking .within, t .totals-length))
+                on-left on-right (t .totalled);
             totals-length = simp length-set (t .totals-length);
             starts-room = t .starts-room;
             sizes-room = t .sizes-room;
           }
-
-      pub turn-cut-less : 2 * end - (depth + 1) < 2 * end - depth
-      turn-cut-less = cut-less c l pending end depth (t .found) some (t .looking) i left right (here .1)

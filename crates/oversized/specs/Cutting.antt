@@ -8,7 +8,7 @@ use lib.ListN.{length, getD, take}
 use Rattle.whole.specs.Double.{sumF64}
 use Rattle.ids.specs.Parts.{idAt}
 use Rattle.cut.specs.Cut.{Chosen, none, cutOf}
-use Rattle.cut.specs.Order.{sizesIn, idsIn, Cuttable}
+use Rattle.cut.specs.Order.{sizesIn, Cuttable}
 use Rattle.settling.specs.Pieces.{Cutting}
 
 -- modules are cut by what the tables say of them
@@ -16,10 +16,9 @@ abbrev pub cuttingOf : List ℕ → List ℕ → List ℕ → Float → Float �
 cuttingOf bytes offsets sizes minimum maximum =
     record { id = idAt bytes offsets; size = λ m. getD sizes m 0; minimum = minimum; maximum = maximum }
 
--- the cut of modules of a total size: none where they are within the maximum
-abbrev pub cutWithin : List ℕ → List ℕ → List ℕ → List ℕ → Float → Float → Float → Chosen
-cutWithin bytes offsets sizes order total minimum maximum =
-    cond (lt maximum total) (cutOf (idsIn bytes offsets order) (sizesIn sizes order) minimum maximum) none
+-- the cut of ids with sizes of a total: none where they are within the maximum
+abbrev pub cutWithin : List (List ℕ) → List ℕ → Float → Float → Float → Chosen
+cutWithin ids sizes total minimum maximum = cond (lt maximum total) (cutOf ids sizes minimum maximum) none
 
 -- where the pieces begin, which lie from the end of a list to its start
 unfoldable pub startsFrom : ℕ → List (List ℕ) → List ℕ
@@ -31,12 +30,17 @@ unfoldable pub sizesOf : List ℕ → List (List ℕ) → List Float
 unfolding sumF64
 sizesOf sizes ps = map (λ p. sumF64 (sizesIn sizes p)) ps
 
--- what is asked of the tables: the modules can be cut, their total size is handed over, and there is room for as many pieces as modules
-pub record Pending (bytes offsets sizes order : List ℕ) (total : Float) (starts : List ℕ) (totals : List Float) : Type 0 where
+-- what is asked of the modules: they can be cut, and their total size is handed over
+pub record Pending (bytes offsets sizes order : List ℕ) (total : Float) : Type 0 where
   pub tables : Cuttable bytes offsets sizes order
   pub few : length order ≤ 4096
   pub some : 1 ≤ length order
   pub whole : total ≡ sumF64 (sizesIn sizes order)
+
+-- two areas as long as the modules are many, and two with room for as many pieces
+pub record Lent (order similar : List ℕ) (sums : List Float) (starts : List ℕ) (totals : List Float) : Type 0 where
+  pub similar-length : length similar ≡ length order
+  pub sums-length : length sums ≡ length order
   pub starts-room : length order ≤ length starts
   pub totals-room : length order ≤ length totals
 

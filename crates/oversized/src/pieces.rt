@@ -1,43 +1,39 @@
-// The pieces of modules in id order. A stack holds where the pieces begin that are still to be looked at; the last of them ends where the
-// finished ones begin.
+// The pieces of modules in id order. One pair of areas holds where they begin and their sizes: the finished ones from the front, the rightmost
+// first, and from the back those that are still to be looked at, of which the next one ends where the finished ones begin.
+use crate::neighbours::fill_similar;
+use crate::neighbours::fill_sums;
 use cut::Cut;
 use cut::CutPoint;
-use cut::scan::pick_in_order;
+use cut::tabled::pick_by_similarity;
 ghost use mathlib.Core.Path.{_≡_};
-ghost use Prim.Native.Nat.{_+_};
+ghost use Prim.Native.Nat.{_+_, _≤_};
+ghost use lib.ListN.{length};
 ghost use Rattle.cut.specs.Call.{chosenOf};
-ghost use Rattle.cut.specs.Order.{Cuttable};
+ghost use Rattle.cut.specs.Tables.{Tabled};
 ghost use Rattle.settling.specs.Pieces.{piecesOf};
+ghost use Rattle.oversized.specs.Neighbours.{Neighbours, Cuttables};
 ghost use Rattle.oversized.specs.Stores.{Pushable, Pushed, Endable, Ended};
-ghost use Rattle.oversized.specs.Cutting.{cuttingOf, cutWithin, Pending, Cutted};
+ghost use Rattle.oversized.specs.Cutting.{cuttingOf, cutWithin, Pending, Lent, Cutted};
 
 // The cut of modules of a total size, if they are above the maximum and one is allowed.
-fn cut_within(
-    bytes: &[u8],
-    offsets: &[u32],
-    sizes: &[u64],
-    order: &[u32],
-    total: f64,
-    minimum: f64,
-    maximum: f64,
-) -> Cut
-    requires { ⌜ Cuttable (now bytes) (now offsets) (now sizes) (now order) ⌝ }
-    ensures { λ r. ⌜ chosenOf r ≡ cutWithin (now (bytes .entry)) (now (offsets .entry)) (now (sizes .entry)) (now (order .entry)) total minimum maximum ⌝ }
+fn cut_within(similar: &[u32], sums: &[f64], total: f64, minimum: f64, maximum: f64) -> Cut
+    requires { ⌜ (1 ≤ length (now similar)) × (length (now similar) ≤ length (now sums)) ⌝ }
+    ensures { λ r. ⌜ ((m : Tabled (now (similar .entry)) (now (sums .entry)) total) → chosenOf r ≡ cutWithin (m .ids) (m .sizes) total minimum maximum) ⌝ }
 {
     if maximum < total {
-        return pick_in_order(bytes, offsets, sizes, order, minimum, maximum);
+        return pick_by_similarity(similar, sums, total, minimum, maximum);
     }
     Cut::None
 }
 
 // The two pieces of a cut take the place of the one that was cut: the right one is looked at next.
-fn push_pieces(pending: &mut [u32], totals: &mut [f64], depth: usize, start: usize, point: CutPoint)
-    requires { ⌜ Pushable (now pending) (now totals) depth (start + point .index) ⌝ }
-    ensures { λ _. ⌜ Pushed (now (pending .entry)) (now (totals .entry)) depth start point (now (pending .exit)) (now (totals .exit)) ⌝ }
+fn push_pieces(starts: &mut [u32], sizes: &mut [f64], top: usize, start: usize, point: CutPoint)
+    requires { ⌜ Pushable (now starts) (now sizes) top (start + point .index) ⌝ }
+    ensures { λ _. ⌜ Pushed (now (starts .entry)) (now (sizes .entry)) top start point (now (starts .exit)) (now (sizes .exit)) ⌝ }
 {
-    pending[depth] = (start + point.index) as u32;
-    totals[depth - 1] = point.left_size;
-    totals[depth] = point.right_size;
+    starts[top - 1] = (start + point.index) as u32;
+    sizes[top] = point.left_size;
+    sizes[top - 1] = point.right_size;
 }
 
 // A piece that stays whole.
@@ -49,7 +45,51 @@ fn end_piece(starts: &mut [u32], sizes: &mut [f64], count: usize, start: usize, 
     sizes[count] = size;
 }
 
-// Cuts modules in id order into pieces, the rightmost first. Answers how many there are.
+// Cuts modules that two tables are of into pieces, the rightmost first. Answers how many there are.
+fn cut_pieces(
+    similar: &[u32],
+    sums: &[f64],
+    total: f64,
+    minimum: f64,
+    maximum: f64,
+    starts: &mut [u32],
+    piece_sizes: &mut [f64],
+) -> usize
+    requires { ⌜ Cuttables (now similar) (now sums) total (now starts) (now «piece_sizes») ⌝ }
+    ensures { λ r. ⌜ ((m : Neighbours (now (similar .entry)) (now (sums .entry)) total) → Cutted
+        (piecesOf (cuttingOf (m .bytes) (m .offsets) (m .sizes) minimum maximum) (m .order)) (m .order) (m .sizes) r
+        (now (starts .exit)) (now («piece_sizes» .exit))) ⌝ }
+{
+    let n = similar.len();
+    let mut top = n - 1;
+    starts[top] = 0;
+    piece_sizes[top] = total;
+    let mut end = n;
+    let mut count = 0;
+    while top < n {
+        let start = starts[top] as usize;
+        let size = piece_sizes[top];
+        let answer = cut_within(
+            &similar[start..end],
+            &sums[start..end],
+            size,
+            minimum,
+            maximum,
+        );
+        let Cut::At(point) = answer else {
+            end_piece(starts, piece_sizes, count, start, size);
+            count = count + 1;
+            top = top + 1;
+            end = start;
+            continue;
+        };
+        push_pieces(starts, piece_sizes, top, start, point);
+        top = top - 1;
+    }
+    count
+}
+
+// Cuts modules in id order into pieces, the rightmost first. Answers how many there are. Neighbours are compared, and sizes added, once for all cuts.
 pub fn split_oversized(
     bytes: &[u8],
     offsets: &[u32],
@@ -58,33 +98,17 @@ pub fn split_oversized(
     total: f64,
     minimum: f64,
     maximum: f64,
+    similar: &mut [u32],
+    sums: &mut [f64],
     starts: &mut [u32],
     piece_sizes: &mut [f64],
 ) -> usize
-    requires { ⌜ Pending (now bytes) (now offsets) (now sizes) (now order) total (now starts) (now «piece_sizes») ⌝ }
+    requires { ⌜ Pending (now bytes) (now offsets) (now sizes) (now order) total ⌝ }
+    requires { ⌜ Lent (now order) (now similar) (now sums) (now starts) (now «piece_sizes») ⌝ }
     ensures { λ r. ⌜ Cutted (piecesOf (cuttingOf (now (bytes .entry)) (now (offsets .entry)) (now (sizes .entry)) minimum maximum)
         (now (order .entry))) (now (order .entry)) (now (sizes .entry)) r (now (starts .exit)) (now («piece_sizes» .exit)) ⌝ }
 {
-    let mut pending = [0u32; 4096];
-    let mut totals = [0.0f64; 4096];
-    totals[0] = total;
-    let mut depth = 1;
-    let mut end = order.len();
-    let mut count = 0;
-    while 0 < depth {
-        let start = pending[depth - 1] as usize;
-        let size = totals[depth - 1];
-        let part = &order[start..end];
-        let answer = cut_within(bytes, offsets, sizes, part, size, minimum, maximum);
-        let Cut::At(point) = answer else {
-            end_piece(starts, piece_sizes, count, start, size);
-            count = count + 1;
-            depth = depth - 1;
-            end = start;
-            continue;
-        };
-        push_pieces(&mut pending, &mut totals, depth, start, point);
-        depth = depth + 1;
-    }
-    count
+    fill_similar(bytes, offsets, order, similar);
+    fill_sums(sizes, order, sums);
+    cut_pieces(similar, sums, total, minimum, maximum, starts, piece_sizes)
 }

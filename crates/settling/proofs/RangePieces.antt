@@ -1,6 +1,6 @@
 -- A loop that finds the pieces of a list with a stack of starts: what holds on each turn, that one look keeps it, and what has been found
 -- once the stack is empty. A turn looks at the top part, l[top..end]; a piece that is taken off ends where the pieces found before it begin.
-use Prim.Native.Nat.{ℕ, _+_, _-_, _*_, _≤_, _<_}
+use Prim.Native.Nat.{ℕ, _+_, _-_, _≤_, _<_}
 use mathlib.Core.Bool.{true, false}
 use mathlib.Core.List.{List, [], _∷_, _++_, append-assoc, append-nil}
 use mathlib.Core.Path.{_≡_, sym, ap, _∙_}
@@ -102,11 +102,3 @@ module _ (c : Cutting) (l starts : List ℕ) where
             within = s .within;
             room = rw (length-set starts depth (topOf starts depth + i)) (s .room);
           }
-
-      -- ---- the loop's measure falls
-
-      pub cut-less : 2 * end - (depth + 1) < 2 * end - depth
-      cut-less = omega (arith, cut-from-one, cut-below, top-deep)
-
-    pub taken-less : 2 * topOf starts depth - (depth - 1) < 2 * end - depth
-    taken-less = omega (arith, top-below, top-deep)

@@ -1,8 +1,9 @@
 -- Laws of the similarity: its bound, that it is symmetric, that the call tests in ascending order, and the similarity from byte i on.
-use Prim.Native.Nat.{ℕ, _+_, _-_, _*_, _≤_, _<_}
+use Prim.Native.Nat.{ℕ, _+_, _-_, _*_, min, _≤_, _<_}
 use mathlib.Core.Bool.{Bool, true, false, cond, _||_}
 use mathlib.Core.List.{List, [], _∷_}
 use mathlib.Core.Path.{_≡_, refl, ap₂}
+use native.Mathlib.Decide.{decLe}
 use native.Mathlib.Nat.{max-comm, min-comm}
 use native.Mathlib.Numerals.{add-one}
 use native.Mathlib.Omega.{arith}
@@ -60,12 +61,20 @@ nothing-right [] = refl
 nothing-right (a ∷ l) = refl
 
 module _ (l r : List ℕ) (i : ℕ) where
-  pub from-left-done : length l ≤ i → similarity (drop i l) (drop i r) ≡ 0
+  from-left-done : length l ≤ i → similarity (drop i l) (drop i r) ≡ 0
   unfolding similarity
   from-left-done h = rw (drop-of-length-le l h)
 
-  pub from-right-done : length r ≤ i → similarity (drop i l) (drop i r) ≡ 0
+  from-right-done : length r ≤ i → similarity (drop i l) (drop i r) ≡ 0
   from-right-done h = rw (drop-of-length-le r h) (nothing-right (drop i l))
+
+  -- past the common length
+  pub from-done : min (length l) (length r) ≤ i → similarity (drop i l) (drop i r) ≡ 0
+  from-done h = go (decLe (length l) (length r))
+    where
+      go : Dec (length l ≤ length r) → similarity (drop i l) (drop i r) ≡ 0
+      go (yes p) = from-left-done (omega arith)
+      go (no p) = from-right-done (omega arith)
 
   pub from-pair : i < length l → i < length r
       → similarity (drop i l) (drop i r) ≡ byteScore (getD l i 0) (getD r i 0) + similarity (drop (i + 1) l) (drop (i + 1) r)

@@ -1,7 +1,7 @@
 // Similarity of two stable ids.
 use ids::offsets::id_too_long;
 ghost use mathlib.Core.Path.{_≡_};
-ghost use Prim.Native.Nat.{_≤_};
+ghost use Prim.Native.Nat.{_≤_, min};
 ghost use lib.ListN.{length};
 ghost use Rattle.similarity.specs.Similarity.{gap, byteScore, similarity, similarityCall, outcomeOf};
 
@@ -31,21 +31,29 @@ fn byte_gap(a: u8, b: u8) -> u32
     (a - b) as u32
 }
 
-// The similarity of two ids that are within the length limit.
+// The shorter of two lengths.
+fn common_length(a: usize, b: usize) -> usize
+    ensures { λ r. ⌜ r ≡ min a b ⌝ }
+{
+    if a < b {
+        return a;
+    }
+    b
+}
+
+// The similarity of two ids that are within the length limit, so that the score fits in 16 bits: narrow sums are added many at a time.
 pub fn similarity_within(lhs: &[u8], rhs: &[u8]) -> u32
     requires { ⌜ length (now lhs) ≤ 1024 ⌝ }
     ensures { λ r. ⌜ r ≡ similarity (now (lhs .entry)) (now (rhs .entry)) ⌝ }
 {
-    let mut score: u32 = 0;
+    let end = common_length(lhs.len(), rhs.len());
+    let mut score: u16 = 0;
     let mut i = 0;
-    while i < lhs.len() {
-        if rhs.len() <= i {
-            return score;
-        }
-        score = score + byte_score(lhs[i], rhs[i]);
+    while i < end {
+        score = score + byte_score(lhs[i], rhs[i]) as u16;
         i = i + 1;
     }
-    score
+    score as u32
 }
 
 // The public call: refuses 3, an id of more than 1,024 bytes.

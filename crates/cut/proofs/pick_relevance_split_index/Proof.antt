@@ -1,20 +1,16 @@
--- `cut::pick_relevance_split_index` meets its contract: each return is one step of the ladder of refusals, and the modules are cut in the
--- order given, the numbers from 0 on.
-use Prim.Native.Nat.{ℕ, _≤_}
+-- `cut::pick_relevance_split_index` meets its contract: each return is one step of the ladder of refusals, and past it the modules are cut.
+use Prim.Native.Nat.{ℕ}
 use mathlib.Core.Bool.{false}
-use mathlib.Core.List.{List}
-use mathlib.Core.Path.{_≡_, sym, ap, _∙_, subst}
+use mathlib.Core.Path.{_≡_, sym, ap, _∙_}
 use native.Mathlib.Omega.{arith}
 use borrow.Author.Needs.{needs}
-use lib.ListN.{length, replicate}
-use lib.Seq.{length-take-le}
 use Rattle.refusal.specs.Outcome.{accepted}
+use Rattle.ids.specs.Parts.{idsOf}
 use Rattle.whole.specs.Total.{totalExceeds}
 use Rattle.whole.proofs.Total.{accepted as accepted-total}
 use Rattle.cut.specs.Cut.{cutOf}
-use Rattle.cut.specs.Order.{sizesIn, idsIn, Cuttable}
+use Rattle.cut.specs.Order.{GivenOrder}
 use Rattle.cut.proofs.Refusals.{Passed, Accepted, too-many, offsets-missing, sizes-missing, ids-bad, total-too-large, minimum-nan, maximum-nan, accepts}
-use Rattle.cut.proofs.GivenOrder.{given-order, given-fits, given-length, cuttable, cut-given}
 use Rattle.cut.proofs.pick_relevance_split_index.Statement.{statement}
 use Rattle.cut.proofs.pick_relevance_split_index.Tie as tie
 
@@ -89,45 +85,26 @@ all-passed e =
       maximum-given = sym (e .before .is-nan2 .ensures) ∙ e .if7 .left;
     }
 
--- the area that the order is written to
-abbrev area : List ℕ
-area = replicate 4096 0
+given : (e : tie.Else7) → let a = entry e .args in GivenOrder (a .bytes .now) (a .offsets .now) (a .sizes .now)
+given e =
+    let p = all-passed e in
+    record {
+      few = omega (arith, p .tables .few, p .tables .all-sizes);
+      all-offsets = omega (arith, p .tables .all-offsets, p .tables .all-sizes);
+      good = p .tables .good;
+      exact = accepted-total _ (p .small);
+    }
 
-within : (e : tie.Else7) → entry e .args .n ≤ length area
-within e = all-passed e .tables .few
-
-array-borrow-prefix-order : tie.Need-array-borrow-prefix-order
-array-borrow-prefix-order c = search needs
-
-slice-aggregate-fill-range : tie.Need-slice-aggregate-fill-range
-slice-aggregate-fill-range c = sym (length-take-le _ area (within (c .before)))
-
-fill-range-requires : tie.Need-fill-range-requires
-fill-range-requires c κs = rw (length-take-le (entry (c .before) .args .n) area (within (c .before))) (omega arith)
-
-array-share-prefix-order : tie.Need-array-share-prefix-order
-array-share-prefix-order c = given-fits area _ _ (within (c .before .before .before)) (c .before .fill-range .ensures)
-
-slice-aggregate-pick-in-order : tie.Need-slice-aggregate-pick-in-order
-slice-aggregate-pick-in-order c = given-length area _ _ (within (c .before .before .before .before)) (c .before .before .fill-range .ensures)
-
-pick-in-order-requires : tie.Need-pick-in-order-requires
-pick-in-order-requires c κs =
-    let e = c .before .before .before .before in
-    let a = entry e .args in
-    let order = given-order area (c .before .before .fill-range .last .0) (a .n) (within e) (c .before .before .fill-range .ensures) in
-    subst (λ (l : List ℕ). Cuttable (a .bytes .now) (a .offsets .now) (a .sizes .now) l) (sym order)
-    (cuttable _ _ _ _ (all-passed e .tables) (accepted-total _ (all-passed e .small)))
+pick-given-requires : tie.Need-pick-given-requires
+pick-given-requires c κs = given c
 
 returns-8 : tie.Need-returns-8
 returns-8 c =
-    let e = c .before .before .before .before .before in
+    let e = c .before in
     let a = entry e .args in
-    let order = given-order area (c .before .before .before .fill-range .last .0) (a .n) (within e) (c .before .before .before .fill-range .ensures) in
     ap accepted
-    (c .pick-in-order .ensures
-    ∙ ap (λ (l : List ℕ). cutOf (idsIn (a .bytes .now) (a .offsets .now) l) (sizesIn (a .sizes .now) l) (a .minimum) (a .maximum)) order
-    ∙ cut-given _ _ _ _ (all-passed e .tables) (a .minimum) (a .maximum))
+    (c .pick-given .ensures
+    ∙ ap (λ (n : ℕ). cutOf (idsOf n (a .bytes .now) (a .offsets .now)) (a .sizes .now) (a .minimum) (a .maximum)) (all-passed e .tables .all-sizes))
     ∙ sym (accepts _ _ _ _ _ _ (all-passed e))
 
 pub pick-relevance-split-index-spec : {M : Type 1} → statement M
@@ -146,10 +123,5 @@ pick-relevance-split-index-spec =
     returns-6
     is-nan-requires-2
     returns-7
-    array-borrow-prefix-order
-    slice-aggregate-fill-range
-    fill-range-requires
-    array-share-prefix-order
-    slice-aggregate-pick-in-order
-    pick-in-order-requires
+    pick-given-requires
     returns-8)

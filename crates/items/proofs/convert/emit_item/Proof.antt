@@ -3,6 +3,7 @@ use mathlib.Core.Path.{_≡_, sym, _∙_}
 use borrow.Author.Needs.{needs}
 use Rattle.limit.specs.declared.Limit.{Limit}
 use Rattle.items.specs.Turn.{Tables, emittedOver, emittedWithin}
+use Rattle.items.proofs.InPieces.{order-ready, order-chunks}
 use Rattle.items.proofs.Within.{whole-room, whole-number, whole-converted, emitted-by, same-converted}
 use Rattle.items.proofs.convert.emit_item.Statement.{statement}
 use Rattle.items.proofs.convert.emit_item.Tie as tie
@@ -64,8 +65,14 @@ returns c =
     let s = start compared in
     whole-converted (tables s) (s .args .members .now) (s .pre .1 .whole) (by compared (told .enum-told .given .1)) (emitted .emit-chunk .ensures)
 
+in-id-order-requires : tie.Need-in-id-order-requires
+in-id-order-requires c κs = search needs
+
 emit-oversized-requires : tie.Need-emit-oversized-requires
-emit-oversized-requires c κs = search needs
+emit-oversized-requires c κs =
+    let ordered = c .before .before .before .before .before .before .before .before in
+    let s = start (ordered .before .before .before .before .before) in
+    order-ready (s .pre .0) (s .pre .1 .some) (ordered .in-id-order .ensures) (s .pre .1 .whole)
 
 same-length-7 : tie.Need-same-length-7
 same-length-7 c = search needs
@@ -87,9 +94,15 @@ same-length-12 c = search needs
 
 returns-2 : tie.Need-returns-2
 returns-2 c =
-    let called = c .before .before .before .before .before .before .before .before .before .before .before .before in
-    let over = called .before .before .before .before .before .before .before .before in
-    same-converted (by (over .before .before) (over .over .given .1)) (called .emit-oversized .ensures)
+    let called = c .before .before .before .before .before .before .before .before .before .before in
+    let ordered = called .before .before .before .before .before .before .before .before .before in
+    let over = ordered .before .before .before in
+    let compared = over .before .before in
+    let s = start compared in
+    let a = s .args in
+    let e = ordered .in-id-order .ensures in
+    let chunks = by compared (over .over .given .1) ∙ order-chunks (s .pre .0) (s .pre .1 .some) e (a .head) (a .limits .minimum) (over .over .given .0 .0) in
+    same-converted chunks (called .emit-oversized .ensures)
 
 pub emit-item-spec : {M : Type 1} → statement M
 emit-item-spec =
@@ -106,6 +119,7 @@ emit-item-spec =
     same-length-5
     same-length-6
     returns
+    in-id-order-requires
     emit-oversized-requires
     same-length-7
     same-length-8

@@ -1,4 +1,4 @@
--- `cut::scan::total_size` meets its contract. The loop's invariant: the total is that of the first i sizes.
+-- `cut::sizes::total_size` meets its contract. The loop's invariant: the total is that of the first i sizes.
 use Prim.Native.Nat.{_-_, _≤_, _<_}
 use mathlib.Core.Path.{_≡_, ap, ap₂, _∙_}
 use native.Mathlib.Omega.{arith}
@@ -9,8 +9,8 @@ use Rattle.whole.specs.Double.{sumF64}
 use Rattle.cut.specs.Order.{sizesIn}
 use Rattle.cut.proofs.InOrder.{length-sizes}
 use Rattle.cut.proofs.Totals.{no-size, size-more}
-use Rattle.cut.proofs.scan.total_size.Statement.{statement}
-use Rattle.cut.proofs.scan.total_size.Tie as tie
+use Rattle.cut.proofs.sizes.total_size.Statement.{statement}
+use Rattle.cut.proofs.sizes.total_size.Tie as tie
 
 abbrev Inv-loop : tie.InvT-loop
 Inv-loop sizes order total₀ i₀ total i = (total ≡ sumF64 (take i (sizesIn sizes order))) × (i ≤ length order)

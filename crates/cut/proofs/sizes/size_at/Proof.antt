@@ -1,4 +1,4 @@
--- `cut::scan::size_at` meets its contract: the module has a size, which a double holds.
+-- `cut::sizes::size_at` meets its contract: the module has a size, which a double holds.
 use Prim.Native.Nat.{_<_}
 use mathlib.Core.Path.{sym, ap}
 use borrow.Author.Needs.{needs, scaled-fits}
@@ -6,8 +6,8 @@ use native.Mathlib.Omega.{arith}
 use lib.ListN.{length, getD}
 use Rattle.whole.specs.Double.{toF64}
 use Rattle.cut.proofs.InOrder.{size-in, size-held}
-use Rattle.cut.proofs.scan.size_at.Statement.{statement}
-use Rattle.cut.proofs.scan.size_at.Tie as tie
+use Rattle.cut.proofs.sizes.size_at.Statement.{statement}
+use Rattle.cut.proofs.sizes.size_at.Tie as tie
 
 mul-result : tie.Need-mul-result
 mul-result c = search needs
