@@ -21,16 +21,16 @@ use Rattle.subgroups.specs.Merged.{Processed}
 use Rattle.subgroups.specs.Items.{subgroupsIn, modulesIn, itemNumbered}
 use Rattle.subgroups.proofs.DividedItems.{divided-items, item-modules}
 
-module _ (r : Settings) (g name : ℕ) (t : Tables) (bits set rows order : List ℕ) (few : length set ≤ 4096) (count : ℕ) (finals kind-sizes : List ℕ)
-    (done : Processed bits (t .sizes) set (r .threshold) count finals kind-sizes rows order)
+module _ (r : Settings) (g name : ℕ) (t : Tables) (bits set rows order : List ℕ) (few : length set ≤ 4096)
+    (done : Processed bits (t .sizes) set (r .threshold) rows order)
     (b : Given) (fits : ItemFits b t bits) (places : List ℕ) (placed : Placed (length (placesOf b)) places) (are : set ≡ modulesAt b places) where
   abbrev item : ℕ → Item
   item s = itemNumbered r g name (treeOf b) places rows s
 
-  of-build : Processed (b .shared .bits) (b .shared .sizes) (modulesAt b places) (r .threshold) count finals kind-sizes rows order
+  of-build : Processed (b .shared .bits) (b .shared .sizes) (modulesAt b places) (r .threshold) rows order
   of-build =
-      subst₂ (λ (w z : List ℕ). Processed w z (modulesAt b places) (r .threshold) count finals kind-sizes rows order) (fits .words) (fits .sizes)
-      (subst (λ (l : List ℕ). Processed bits (t .sizes) l (r .threshold) count finals kind-sizes rows order) are done)
+      subst₂ (λ (w z : List ℕ). Processed w z (modulesAt b places) (r .threshold) rows order) (fits .words) (fits .sizes)
+      (subst (λ (l : List ℕ). Processed bits (t .sizes) l (r .threshold) rows order) are done)
 
   few-places : length places ≤ 4096
   few-places = omega (arith, ap length are, length-map places (moduleAt b))
@@ -40,7 +40,7 @@ module _ (r : Settings) (g name : ℕ) (t : Tables) (bits set rows order : List 
 
   pub items-are : dividedItems r g name (treeOf b) places ≡ map item (subgroupsIn order)
   items-are =
-      divided-items b places (placed .below) few-places r exact count finals kind-sizes rows order of-build g name
+      divided-items b places (placed .below) few-places r exact rows order of-build g name
 
   module _ (s : ℕ) where
     pub item-placed : List·Memᴰ s (subgroupsIn order) → Placed (length (placesOf b)) (item s .places)
@@ -52,4 +52,4 @@ module _ (r : Settings) (g name : ℕ) (t : Tables) (bits set rows order : List 
     pub modules-in : modulesIn set order s ≡ modulesAt b (item s .places)
     modules-in =
         ap (λ (l : List ℕ). modulesIn l order s) are
-        ∙ sym (item-modules b places (placed .below) few-places r exact count finals kind-sizes rows order of-build g name s)
+        ∙ sym (item-modules b places (placed .below) few-places r exact rows order of-build g name s)

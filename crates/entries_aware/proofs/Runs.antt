@@ -33,6 +33,7 @@ use Rattle.running.proofs.Advancing.{advance-none, advance-item, begun-next, be
 use Rattle.running.proofs.ItemTurn.{turn-entries, turn-ready, turn-advances}
 use Rattle.sets.specs.Built.{startAt, startsOf}
 use Rattle.sets.specs.Matched.{RunEnd}
+use Rattle.subgroups.specs.Kinds.{kindsIn}
 use Rattle.subgroups.specs.Items.{subgroupsIn, modulesIn, itemNumbered}
 use Rattle.subgroups.proofs.Numbered.{at-most}
 use Rattle.subgroups.proofs.RunModules.{order-ascends, position-within, number-below}
@@ -103,18 +104,18 @@ module _ (r : Settings) (g name : ℕ) {t : Tables} {bits set rows order members
       first : List·Memᴰ (getD order from 0) order
       first = getD-mem order from 0 (omega (arith, end .some, end .within))
 
-      below : k < ready .count
+      below : k < length (kindsIn bits set)
       below =
-          number-below bits (t .sizes) set (ready .few) (r .threshold) (ready .count) (ready .finals) (ready .kind-sizes) rows order (ready .processed)
+          number-below bits (t .sizes) set (ready .few) (r .threshold) rows order (ready .processed)
           (getD order from 0) first
 
-      subgroups : ready .count ≤ length set
-      subgroups = at-most bits (t .sizes) set (ready .few) (r .threshold) (ready .count) (ready .finals) (ready .kind-sizes) rows order (ready .processed)
+      subgroups : length (kindsIn bits set) ≤ length set
+      subgroups = at-most bits (t .sizes) set (ready .few) (r .threshold) rows order (ready .processed)
 
       run : Run keyOf order 0 k from to
       run =
           run-of keyOf
-          (order-ascends bits (t .sizes) set (ready .few) (r .threshold) (ready .count) (ready .finals) (ready .kind-sizes) rows order (ready .processed))
+          (order-ascends bits (t .sizes) set (ready .few) (r .threshold) rows order (ready .processed))
           (w .starts) (end .some) (end .within) (end .same) (end .stop)
 
       pub run-row : 4 * k + 4 ≤ length rows
@@ -132,7 +133,7 @@ module _ (r : Settings) (g name : ℕ) {t : Tables} {bits set rows order members
           let e : getD part i 0 ≡ getD order (from + i) 0 = getD-take (to - from) (drop from order) i 0 u ∙ getD-drop from order i 0 in
           let m : List·Memᴰ (getD order (from + i) 0) order = getD-mem order (from + i) 0 (omega (arith, end .within)) in
           subst (λ (x : ℕ). itemOf x < length set) (sym e)
-          (position-within bits (t .sizes) set (ready .few) (r .threshold) (ready .count) (ready .finals) (ready .kind-sizes) rows order (ready .processed)
+          (position-within bits (t .sizes) set (ready .few) (r .threshold) rows order (ready .processed)
           (getD order (from + i) 0) m)
 
       among : List·Memᴰ k (subgroupsIn order)
@@ -145,13 +146,13 @@ module _ (r : Settings) (g name : ℕ) {t : Tables} {bits set rows order members
 
         here : Placed (length (placesOf b′)) (item .places)
         here =
-            item-placed r g name t bits set rows order (ready .few) (ready .count) (ready .finals) (ready .kind-sizes) (ready .processed)
+            item-placed r g name t bits set rows order (ready .few) (ready .processed)
             b′ fits′ places placed are k among
 
         run-modules : startsOf set part ≡ modulesAt b′ (item .places)
         run-modules =
             ap (map (startAt set)) (sym (run-keeps keyOf run))
-            ∙ modules-in r g name t bits set rows order (ready .few) (ready .count) (ready .finals) (ready .kind-sizes) (ready .processed)
+            ∙ modules-in r g name t bits set rows order (ready .few) (ready .processed)
             b′ fits′ places placed are k
 
       -- ---- what its turn asks
@@ -220,6 +221,6 @@ module _ (r : Settings) (g name : ℕ) {t : Tables} {bits set rows order members
         all b start places fits placed are =
             subst (λ (l : List Item). Advance b start (λ chunks. foldl (settled (treeOf b)) chunks l) number at made entry now)
             (ap (map (itemNumbered r g name (treeOf b) places rows)) done
-            ∙ sym (items-are r g name t bits set rows order (ready .few) (ready .count) (ready .finals) (ready .kind-sizes) (ready .processed)
+            ∙ sym (items-are r g name t bits set rows order (ready .few) (ready .processed)
             b fits places placed are))
             (w .advance b start places fits placed are)

@@ -1,9 +1,9 @@
--- A set of a build has what its division asks: a size and a row of bits for each module, and sizes that add exactly.
-use Prim.Native.Nat.{ℕ, _≤_}
+-- A set of a build has what its division asks: a size and a row of bits for each module, and sizes that add exactly. Its part of scratch has room.
+use Prim.Native.Nat.{ℕ, _+_, _-_, _≤_}
 use mathlib.Core.List.{List}
 use mathlib.Core.Path.{sym, ap, subst}
 use native.Mathlib.Omega.{arith}
-use lib.ListN.{length}
+use lib.ListN.{length, take, drop, length-take, length-drop}
 use Rattle.settling.specs.Modules.{modulesAt}
 use Rattle.emitting.specs.Emitted.{Work}
 use Rattle.items.specs.Turn.{Tables}
@@ -20,3 +20,7 @@ set-members {t} {bits} {number} {at} {now} {set} s few =
     let few-modules : length (modulesAt b (s .places)) ≤ 4096 = omega (arith, ap length (s .are)) in
     subst (λ (l : List ℕ). Members bits (t .sizes) l) (sym (s .are))
     (record { count = few-modules; has-size = sized .has-size; has-bits = has-bits b t bits fits (s .places) (s .placed); exact = sized .exact })
+
+-- the part of a list from `from` to `to`
+pub part-room : (m from to : ℕ) (l : List ℕ) → from + m ≤ to → to ≤ length l → m ≤ length (take (to - from) (drop from l))
+part-room m from to l h b = simp (length-take, length-drop) (omega arith)

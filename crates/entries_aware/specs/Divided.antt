@@ -9,14 +9,11 @@ use Rattle.items.specs.Turn.{Tables}
 use Rattle.running.specs.Turns.{SetTurning}
 use Rattle.subgroups.specs.Merged.{Processed}
 
--- `order` has the set's positions by subgroup, `rows` the united bits of each; the rest of the division's tables is not read
+-- `order` has the set's positions by subgroup, `rows` the united bits of each
 pub record DividedReady (t : Tables) (bits : List ℕ) (number at : ℕ) (now : Work) (set : List ℕ) (threshold : Float)
     (rows order members : List ℕ) : Type 0 where
   pub turning : SetTurning t bits number at now set
-  pub count : ℕ
-  pub finals : List ℕ
-  pub kind-sizes : List ℕ
-  pub processed : Processed bits (t .sizes) set threshold count finals kind-sizes rows order
+  pub processed : Processed bits (t .sizes) set threshold rows order
   pub few : length set ≤ 4096
   pub positions : length order ≡ length set
   pub row-each : 4 * length set ≤ length rows

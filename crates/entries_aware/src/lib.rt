@@ -112,6 +112,186 @@ fn convert_divided(
     made
 }
 
+// A set of few modules gets short tables, which cost less to clear.
+fn convert_few(
+    settings: Settings,
+    group: u32,
+    name: u32,
+    set: &[u32],
+    n: usize,
+    sizes: &[u64],
+    bits: &[u64],
+    bytes: &[u8],
+    offsets: &[u32],
+    rank: &[u32],
+    number: ChunkIdx,
+    at: usize,
+    scratch: &mut [u32],
+    chunk_of: &mut [u32],
+    group_of: &mut [u32],
+    name_of: &mut [u32],
+    size_of: &mut [f64],
+    bits_of: &mut [u64],
+) -> usize
+    requires { ⌜ SetTurning (record {
+      bytes = now (bytes);
+      offsets = now (offsets);
+      sizes = now (sizes);
+      rank = now (rank);
+    }) (now bits) (number .0) at (record {
+      chunk-of = now («chunk_of»);
+      group-of = now («group_of»);
+      name-of = now («name_of»);
+      size-of = now («size_of»);
+      bits-of = now («bits_of»);
+    }) (now set) ⌝ }
+    requires { ⌜ (length (now set) ≤ 1024) × (length (now set) ≤ n) × (n ≤ 4096) × (3 * n ≤ length (now scratch)) ⌝ }
+    ensures { λ r. ⌜ SetTurned (record {
+      bytes = now (bytes .entry);
+      offsets = now (offsets .entry);
+      sizes = now (sizes .entry);
+      rank = now (rank .entry);
+    }) (now (bits .entry)) (now (set .entry))
+        (λ tree places. dividedItems settings group name tree places) (number .0) at r (record {
+          chunk-of = now («chunk_of» .entry);
+          group-of = now («group_of» .entry);
+          name-of = now («name_of» .entry);
+          size-of = now («size_of» .entry);
+          bits-of = now («bits_of» .entry);
+        }) (record {
+          chunk-of = now («chunk_of» .exit);
+          group-of = now («group_of» .exit);
+          name-of = now («name_of» .exit);
+          size-of = now («size_of» .exit);
+          bits-of = now («bits_of» .exit);
+        }) ⌝ }
+    ensures { λ _. ⌜ length (now (scratch .exit)) ≡ length (now (scratch .entry)) ⌝ }
+{
+    let count = set.len();
+    let mut kind_bits = [0u64; 4096];
+    let mut divided = [0u32; 1024];
+    process_entries_aware_group(
+        bits,
+        sizes,
+        set,
+        settings.threshold,
+        &mut kind_bits,
+        &mut divided[..count],
+    );
+    let end = 2 * n;
+    convert_divided(
+        settings,
+        group,
+        name,
+        set,
+        &divided[..count],
+        &kind_bits,
+        sizes,
+        bits,
+        bytes,
+        offsets,
+        rank,
+        number,
+        at,
+        &mut scratch[n..end],
+        chunk_of,
+        group_of,
+        name_of,
+        size_of,
+        bits_of,
+    )
+}
+
+// Tables for as many modules as there can be.
+fn convert_many(
+    settings: Settings,
+    group: u32,
+    name: u32,
+    set: &[u32],
+    n: usize,
+    sizes: &[u64],
+    bits: &[u64],
+    bytes: &[u8],
+    offsets: &[u32],
+    rank: &[u32],
+    number: ChunkIdx,
+    at: usize,
+    scratch: &mut [u32],
+    chunk_of: &mut [u32],
+    group_of: &mut [u32],
+    name_of: &mut [u32],
+    size_of: &mut [f64],
+    bits_of: &mut [u64],
+) -> usize
+    requires { ⌜ SetTurning (record {
+      bytes = now (bytes);
+      offsets = now (offsets);
+      sizes = now (sizes);
+      rank = now (rank);
+    }) (now bits) (number .0) at (record {
+      chunk-of = now («chunk_of»);
+      group-of = now («group_of»);
+      name-of = now («name_of»);
+      size-of = now («size_of»);
+      bits-of = now («bits_of»);
+    }) (now set) ⌝ }
+    requires { ⌜ (length (now set) ≤ n) × (n ≤ 4096) × (3 * n ≤ length (now scratch)) ⌝ }
+    ensures { λ r. ⌜ SetTurned (record {
+      bytes = now (bytes .entry);
+      offsets = now (offsets .entry);
+      sizes = now (sizes .entry);
+      rank = now (rank .entry);
+    }) (now (bits .entry)) (now (set .entry))
+        (λ tree places. dividedItems settings group name tree places) (number .0) at r (record {
+          chunk-of = now («chunk_of» .entry);
+          group-of = now («group_of» .entry);
+          name-of = now («name_of» .entry);
+          size-of = now («size_of» .entry);
+          bits-of = now («bits_of» .entry);
+        }) (record {
+          chunk-of = now («chunk_of» .exit);
+          group-of = now («group_of» .exit);
+          name-of = now («name_of» .exit);
+          size-of = now («size_of» .exit);
+          bits-of = now («bits_of» .exit);
+        }) ⌝ }
+    ensures { λ _. ⌜ length (now (scratch .exit)) ≡ length (now (scratch .entry)) ⌝ }
+{
+    let count = set.len();
+    let mut kind_bits = [0u64; 16384];
+    let mut divided = [0u32; 4096];
+    process_entries_aware_group(
+        bits,
+        sizes,
+        set,
+        settings.threshold,
+        &mut kind_bits,
+        &mut divided[..count],
+    );
+    let end = 2 * n;
+    convert_divided(
+        settings,
+        group,
+        name,
+        set,
+        &divided[..count],
+        &kind_bits,
+        sizes,
+        bits,
+        bytes,
+        offsets,
+        rank,
+        number,
+        at,
+        &mut scratch[n..end],
+        chunk_of,
+        group_of,
+        name_of,
+        size_of,
+        bits_of,
+    )
+}
+
 // Divides an entries-aware set, merges its subgroups, and turns each of them into chunks. What is left of an item stands in the second part of
 // scratch.
 pub fn convert_subgroups(
@@ -168,35 +348,34 @@ pub fn convert_subgroups(
         }) ⌝ }
     ensures { λ _. ⌜ length (now (scratch .exit)) ≡ length (now (scratch .entry)) ⌝ }
 {
-    let count = set.len();
-    let mut kind_of = [0u32; 4096];
-    let mut kind_sizes = [0u64; 4096];
-    let mut kind_bits = [0u64; 16384];
-    let mut keys = [0u64; 4096];
-    let mut spare = [0u64; 4096];
-    let mut finals = [0u32; 4096];
-    let mut divided = [0u32; 4096];
-    process_entries_aware_group(
-        bits,
-        sizes,
-        set,
-        settings.threshold,
-        &mut kind_of[..count],
-        &mut kind_sizes,
-        &mut kind_bits,
-        &mut finals,
-        &mut keys[..count],
-        &mut spare,
-        &mut divided[..count],
-    );
-    let end = 2 * n;
-    convert_divided(
+    if set.len() <= 1024 {
+        return convert_few(
+            settings,
+            group,
+            name,
+            set,
+            n,
+            sizes,
+            bits,
+            bytes,
+            offsets,
+            rank,
+            number,
+            at,
+            scratch,
+            chunk_of,
+            group_of,
+            name_of,
+            size_of,
+            bits_of,
+        );
+    }
+    convert_many(
         settings,
         group,
         name,
         set,
-        &divided[..count],
-        &kind_bits,
+        n,
         sizes,
         bits,
         bytes,
@@ -204,7 +383,7 @@ pub fn convert_subgroups(
         rank,
         number,
         at,
-        &mut scratch[n..end],
+        scratch,
         chunk_of,
         group_of,
         name_of,

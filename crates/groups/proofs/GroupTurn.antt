@@ -14,15 +14,16 @@ use Rattle.settling.specs.Traversal.{namesOf, afterName, afterGroup}
 use Rattle.emitting.specs.Emitted.{Work}
 use Rattle.items.specs.Turn.{Tables}
 use Rattle.sets.specs.Area.{Holds}
-use Rattle.sets.specs.Matched.{Matching, keysOf, GroupMatchable}
+use Rattle.sets.specs.Matched.{Matching, keysOf, Matchable}
 use Rattle.sets.specs.OfBuild.{matchingOf}
 use Rattle.sets.proofs.FromPassed.{places-few}
 use Rattle.sets.proofs.MatchedKeys.{keys-few}
+use Rattle.sets.proofs.Ready as ready
 use Rattle.running.specs.Fits.{ItemFits, Walking}
 use Rattle.running.specs.State.{Advance}
 use Rattle.names.specs.Turn.{GroupFits, NamesTurned}
 use Rattle.groups.specs.Turn.{Asked, OneFits, GroupTurned}
-use Rattle.groups.proofs.GroupReady.{same-matching, same-matched, group-matchable}
+use Rattle.groups.proofs.GroupReady.{same-matching, same-matched}
 
 -- what the group is matched by
 abbrev pub matchingBy : Tables → Settings → Asked → Matching
@@ -37,11 +38,10 @@ module _ {t : Tables} {w : Walking} {bits : List ℕ} {settings : Settings} {gro
     matching-is : matchingBy t settings asked ≡ matchingOf b group
     matching-is = same-matching (ap (λ (r : Settings). r .filter) (fits .settings-are)) (fits .answers) (fits .tags) (items .sizes) (fits .shares)
 
-    pub group-ready : (keys spare matched : List ℕ) → 4096 ≤ length keys → 4096 ≤ length spare → 4096 ≤ length matched
-        → GroupMatchable (matchingBy t settings asked) (w .order) keys spare matched
-    group-ready keys spare matched u v x =
-        subst₂ (λ (m : Matching) (order : List ℕ). GroupMatchable m order keys spare matched) (sym matching-is) (sym (fits .walks .order))
-        (group-matchable b (items .passed) group (fits .inside) keys spare matched u v x)
+    pub group-ready : (matched : List ℕ) → 4096 ≤ length matched → Matchable (matchingBy t settings asked) (w .order) matched
+    group-ready matched u =
+        subst₂ (λ (m : Matching) (order : List ℕ). Matchable m order matched) (sym matching-is) (sym (fits .walks .order))
+        (ready.group-ready b (items .passed) group (fits .inside) (omega (arith, places-few b (items .passed))))
 
     module _ {count : ℕ} {area : List ℕ} (held : Holds (foundBy t w settings asked) count area) where
       pub found-few : count ≤ 4096

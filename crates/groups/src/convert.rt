@@ -82,21 +82,9 @@ fn convert_group(
     ensures { λ _. ⌜ (length (now (marks .exit)) ≡ length (now (marks .entry))) × (length (now (set .exit)) ≡ length (now (set .entry)))
         × (length (now (scratch .exit)) ≡ length (now (scratch .entry))) × (now (followed .exit) ≡ unfollowed) ⌝ }
 {
-    let mut keys = [0u64; 4096];
-    let mut spare = [0u64; 4096];
     let mut matched = [0u32; 4096];
     let filter = settings.filter;
-    let count = match_group(
-        filter,
-        answers,
-        tags,
-        sizes,
-        shares,
-        order,
-        &mut keys,
-        &mut spare,
-        &mut matched,
-    );
+    let count = match_group(filter, answers, tags, sizes, shares, order, &mut matched);
     convert_names(
         settings,
         group,

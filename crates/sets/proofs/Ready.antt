@@ -23,7 +23,7 @@ use Rattle.grouping.specs.Conditions.{badDependency}
 use Rattle.grouping.specs.Tree.{placesOf}
 use Rattle.grouping_laws.proofs.Places.{places-mem}
 use Rattle.settling.specs.Modules.{Passed, moduleAt}
-use Rattle.sets.specs.Matched.{GroupMatchable, RunEnd, takesModule, nameOf, keyAt, takingPart, keysOf}
+use Rattle.sets.specs.Matched.{Matchable, RunEnd, takesModule, nameOf, keyAt, takingPart, keysOf}
 use Rattle.sets.specs.Built.{Placed, SetReady}
 use Rattle.sets.specs.OfBuild.{matchingOf, matchedOf, runOf}
 use Rattle.sets.proofs.FromPassed.{places-few, flag-bytes, record-tables, readable, answer-below}
@@ -54,18 +54,12 @@ module _ (b : Given) (ok : Passed b) where
       (record { flag-bytes = flag-bytes b ok; records = record-tables b ok; good = ok .records })
 
   module _ (g : ℕ) (h : g < b .variant .g) where
-    pub group-ready : {keys spare matched : List ℕ} → length (placesOf b) ≤ length keys → length (placesOf b) ≤ length spare
-        → length (placesOf b) ≤ length matched → GroupMatchable (matchingOf b g) (placesOf b) keys spare matched
-    group-ready k s m =
+    pub group-ready : {matched : List ℕ} → length (placesOf b) ≤ length matched → Matchable (matchingOf b g) (placesOf b) matched
+    group-ready m =
         record {
-          matchable =
-              record {
-                few = places-few b ok;
-                readable = λ p u. let i = places-mem b (moduleAt b p) (getD-mem (placesOf b) p 0 u) in readable b ok g h (moduleAt b p) (i .0) (i .1);
-                room = k;
-              };
-          spare-room = s;
-          matched-room = m;
+          few = places-few b ok;
+          readable = λ p u. let i = places-mem b (moduleAt b p) (getD-mem (placesOf b) p 0 u) in readable b ok g h (moduleAt b p) (i .0) (i .1);
+          room = m;
         }
 
     -- ---- the matched

@@ -63,7 +63,7 @@ pub record Matchable (g : Matching) (order area : List ℕ) : Type 0 where
   pub readable : (i : ℕ) → i < length order → Readable g (getD order i 0)
   pub room : length order ≤ length area
 
--- the same with room in each of three areas
+-- the same with room in each of three areas, of which two are for the sort
 pub record GroupMatchable (g : Matching) (order keys spare matched : List ℕ) : Type 0 where
   pub matchable : Matchable g order keys
   pub spare-room : length order ≤ length spare

@@ -14,7 +14,7 @@ use Rattle.bitset.specs.Entries.{rowOf}
 use Rattle.bitset.specs.declared.entries.BitSet.{BitSet}
 use Rattle.merge.specs.Subgroup.{Subgroup}
 use Rattle.merge.specs.Merge.{Merging}
-use Rattle.merge.specs.Tables.{subgroupAt}
+use Rattle.merge.specs.Tables.{subgroupAt, finalSizes}
 use Rattle.options.specs.declared.Settings.{Settings}
 use Rattle.grouping.specs.Given.{Given}
 use Rattle.grouping.specs.Tree.{Tree, placesOf, treeOf, memberAt}
@@ -31,8 +31,7 @@ use Rattle.subgroups.proofs.RunModules.{modules-are}
 
 module _ (b : Given) (places : List ℕ) (inside : (p : ℕ) → List·Memᴰ p places → p < length (placesOf b)) (few : length places ≤ 4096)
     (r : Settings) (exact : sum (sizesOf (b .shared .sizes) (modulesAt b places)) ≤ 2 ^ 53)
-    (count : ℕ) (finals kind-sizes kind-bits order : List ℕ)
-    (done : Processed (b .shared .bits) (b .shared .sizes) (modulesAt b places) (r .threshold) count finals kind-sizes kind-bits order) where
+    (kind-bits order : List ℕ) (done : Processed (b .shared .bits) (b .shared .sizes) (modulesAt b places) (r .threshold) kind-bits order) where
   abbrev set : List ℕ
   set = modulesAt b places
 
@@ -54,24 +53,31 @@ module _ (b : Given) (places : List ℕ) (inside : (p : ℕ) → List·Memᴰ p 
   abbrev still : List ℕ
   still = subgroupsIn order
 
-  there : result .there ≡ map (subgroupAt (take count kind-sizes) (take (4 * count) kind-bits)) still
+  -- how many kinds there are
+  abbrev count : ℕ
+  count = length (kindsIn bits set)
+
+  -- the subgroup of a row
+  abbrev at : ℕ → Subgroup
+  at = subgroupAt (finalSizes count (mergedKinds bits (b .shared .sizes) set (r .threshold))) (take (4 * count) kind-bits)
+
+  there : result .there ≡ map at still
   there =
       sym (ap (λ (m : Merging). m .there) same)
-      ∙ there-are bits (b .shared .sizes) set few-modules (r .threshold) count finals kind-sizes kind-bits order done
-      ∙ ap (map (subgroupAt (take count kind-sizes) (take (4 * count) kind-bits)))
-      (sym (runs-are bits (b .shared .sizes) set few-modules (r .threshold) count finals kind-sizes kind-bits order done))
+      ∙ there-are bits (b .shared .sizes) set few-modules (r .threshold) kind-bits order done
+      ∙ ap (map at)
+      (sym (runs-are bits (b .shared .sizes) set few-modules (r .threshold) kind-bits order done))
 
   -- a subgroup that a run meets is one of the count
-  pub run-below : (s : ℕ) → List·Memᴰ s (subgroupsIn order) → s < count
+  pub run-below : (s : ℕ) → List·Memᴰ s (subgroupsIn order) → s < length (kindsIn (b .shared .bits) (modulesAt b places))
   run-below s m =
-      still-below bits (b .shared .sizes) set few-modules (r .threshold) count finals kind-sizes kind-bits order done s
-      (subst (λ l. List·Memᴰ s l) (runs-are bits (b .shared .sizes) set few-modules (r .threshold) count finals kind-sizes kind-bits order done) m)
+      still-below bits (b .shared .sizes) set few-modules (r .threshold) kind-bits order done s
+      (subst (λ l. List·Memᴰ s l) (runs-are bits (b .shared .sizes) set few-modules (r .threshold) kind-bits order done) m)
 
   pub divided-items : (g name : ℕ) → dividedItems r g name tree places ≡ map (itemNumbered r g name tree places kind-bits) (subgroupsIn order)
   unfolding dividedItems subgroupAt
   divided-items g name =
       let made : Subgroup → Item = itemOfSubgroup r g name tree places (kindsAt tree places) (result .finals) in
-      let at : ℕ → Subgroup = subgroupAt (take count kind-sizes) (take (4 * count) kind-bits) in
       ap (map made) there
       ∙ map-map made at still
       ∙ map-same (λ s. made (at s)) (itemNumbered r g name tree places kind-bits) still
@@ -94,4 +100,4 @@ module _ (b : Given) (places : List ℕ) (inside : (p : ℕ) → List·Memᴰ p 
       ∙ ap (λ (w : Merging). eqb (getD (w .finals) (kindOfModule bits (kindsIn bits set) (moduleAt b p)) 0) s) (sym same) in
       ap (map (moduleAt b)) (keep-same by-place (λ p. ends (moduleAt b p)) places agree)
       ∙ sym (keep-map ends (moduleAt b) places)
-      ∙ sym (modules-are bits (b .shared .sizes) set few-modules (r .threshold) count finals kind-sizes kind-bits order done s)
+      ∙ sym (modules-are bits (b .shared .sizes) set few-modules (r .threshold) kind-bits order done s)

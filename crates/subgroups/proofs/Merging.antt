@@ -21,7 +21,7 @@ use Rattle.bitset.specs.Entries.{empty, rowOf}
 use Rattle.bitset.specs.declared.entries.BitSet.{BitSet}
 use Rattle.merge.specs.Subgroup.{Subgroup}
 use Rattle.merge.specs.Merge.{Merging, merged}
-use Rattle.merge.specs.Tables.{subgroupAt, start, mergeOf, Mergeable}
+use Rattle.merge.specs.Tables.{subgroupAt, start, mergeOf, finalSizes, Mergeable}
 use Rattle.merge.specs.Engine.{stateOf, Final}
 use Rattle.merge.proofs.Laws.{final-below}
 use Rattle.grouping.specs.Subgroups.{sameBits, kindsOf}
@@ -138,10 +138,17 @@ module _ (bits sizes set : List ℕ) (given : Members bits sizes set) (threshold
           (λ i h. ap (λ (v : ℕ). v * 4096 + (0 + i)) (read (getD kind-of (0 + i) 0) (kind-at (0 + i) (omega arith))))
           ∙ ap₂ positionKeys numbers-are (found .numbers))
 
-      pub processed : (rest-sizes rest-bits order : List ℕ) → length z ≡ r → length b ≡ 4 * r → order ≡ divided (n ++ rest) kind-of
-          → Processed bits sizes set threshold r (n ++ rest) (z ++ rest-sizes) (b ++ rest-bits) order
-      processed rest-sizes rest-bits order length-z length-b e = record {
-        count = count;
-        state = rw (take-at n rest r length-n, take-at z rest-sizes r length-z, take-at b rest-bits (4 * r) length-b) state-is;
-        order-is = e ∙ order-is;
-      }
+      sizes-are : z ≡ finalSizes (length kinds) (mergedKinds bits sizes set threshold)
+      sizes-are = final .final-sizes ∙ ap₂ finalSizes (same ∙ count) result
+
+      pub processed : (rest-bits order : List ℕ) → length b ≡ 4 * r → order ≡ divided (n ++ rest) kind-of
+          → Processed bits sizes set threshold (b ++ rest-bits) order
+      processed rest-bits order length-b e =
+          let rows : List ℕ = take (4 * length kinds) (b ++ rest-bits) in
+          record {
+            state =
+                ap₂ (λ (n z : List ℕ). stateOf n z rows) (sym numbers-are) (sym sizes-are)
+                ∙ ap (stateOf n z) (ap (λ (k : ℕ). take (4 * k) (b ++ rest-bits)) (sym count) ∙ take-at b rest-bits (4 * r) length-b)
+                ∙ state-is;
+            order-is = e ∙ order-is;
+          }

@@ -23,7 +23,7 @@ use Rattle.bitset.specs.Entries.{empty, rowOf}
 use Rattle.bitset.specs.declared.entries.BitSet.{BitSet}
 use Rattle.merge.specs.Subgroup.{Subgroup}
 use Rattle.merge.specs.Merge.{Merging}
-use Rattle.merge.specs.Tables.{subgroupAt}
+use Rattle.merge.specs.Tables.{subgroupAt, finalSizes}
 use Rattle.merge.specs.Engine.{isThere, thereIn}
 use Rattle.grouping.specs.Subgroups.{sameBits}
 use Rattle.grouping_laws.proofs.BitKinds.{same-refl, kind-in}
@@ -36,8 +36,8 @@ use Rattle.subgroups.proofs.Merging.{kinds-few}
 use Rattle.subgroups.proofs.OneMore.{number-less}
 use Rattle.subgroups.proofs.Positions.{kind-at}
 
-module _ (bits sizes set : List ℕ) (few : length set ≤ 4096) (threshold : Float) (r : ℕ) (finals kind-sizes kind-bits order : List ℕ)
-    (done : Processed bits sizes set threshold r finals kind-sizes kind-bits order) where
+module _ (bits sizes set : List ℕ) (few : length set ≤ 4096) (threshold : Float) (kind-bits order : List ℕ)
+    (done : Processed bits sizes set threshold kind-bits order) where
   abbrev kinds : List BitSet
   kinds = kindsIn bits set
 
@@ -65,20 +65,19 @@ module _ (bits sizes set : List ℕ) (few : length set ≤ 4096) (threshold : Fl
         ended = λ n m. (subgroupOfKind bits sizes set n, Memᴰ·map (subgroupOfKind bits sizes set) m, refl);
       })
 
-  same-finals : take r finals ≡ numbers
-  same-finals = ap (λ (m : Merging). m .finals) (done .state)
+  -- the subgroup of a row
+  abbrev at : ℕ → Subgroup
+  at = subgroupAt (finalSizes (length kinds) result) (take (4 * length kinds) kind-bits)
 
   -- the subgroups that are still there, by the tables
-  pub there-are : result .there ≡ map (subgroupAt (take r kind-sizes) (take (4 * r) kind-bits)) still
+  pub there-are : result .there ≡ map at still
   unfolding thereIn
-  there-are =
-      sym (ap (λ (m : Merging). m .there) (done .state))
-      ∙ ap (λ (l : List ℕ). map (subgroupAt (take r kind-sizes) (take (4 * r) kind-bits)) (keep (isThere l) (range 0 (length l)))) same-finals
+  there-are = sym (ap (λ (m : Merging). m .there) (done .state))
 
-  pub numbers-count : length numbers ≡ r
-  numbers-count = ended .entries ∙ sym (done .count)
+  pub numbers-count : length numbers ≡ length kinds
+  numbers-count = ended .entries
 
-  pub still-below : (s : ℕ) → List·Memᴰ s still → s < r
+  pub still-below : (s : ℕ) → List·Memᴰ s still → s < length kinds
   still-below s m =
       let w = range-mem 0 (length numbers) s (keep-mem (isThere numbers) (range 0 (length numbers)) s m .0) in
       omega (arith, numbers-count)
@@ -87,7 +86,7 @@ module _ (bits sizes set : List ℕ) (few : length set ≤ 4096) (threshold : Fl
   unfolding subgroupAt
   final-still n m =
       let s = ended .ended n m in
-      let o = Memᴰ·of-map (subgroupAt (take r kind-sizes) (take (4 * r) kind-bits)) still (subst (λ l. List·Memᴰ (s .0) l) there-are (s .1)) in
+      let o = Memᴰ·of-map at still (subst (λ l. List·Memᴰ (s .0) l) there-are (s .1)) in
       Memᴰ·cast (sym (s .2) ∙ sym (ap (λ (u : Subgroup). u .number) (o .2))) (o .1)
 
   -- ---- the positions
@@ -109,7 +108,7 @@ module _ (bits sizes set : List ℕ) (few : length set ≤ 4096) (threshold : Fl
   position-of : (s : ℕ) → List·Memᴰ s still → (i : ℕ) × (i < length set) × (key i ≡ s)
   position-of s m =
       let e : getD numbers s 0 ≡ s = eqb-true (getD numbers s 0) s (keep-mem (isThere numbers) (range 0 (length numbers)) s m .1) in
-      let w : s < length kinds = omega (arith, still-below s m, done .count) in
+      let w : s < length kinds = still-below s m in
       let o = Memᴰ·of-map (rowOf bits) set (kind-in (length set) (map (rowOf bits) set) (getD kinds s empty) (getD-mem kinds s empty w)) in
       let at = mem-getD 0 (o .1) in
       let own : kindOfModule bits kinds (o .0) ≡ s =
@@ -120,8 +119,8 @@ module _ (bits sizes set : List ℕ) (few : length set ≤ 4096) (threshold : Fl
   small : (i : ℕ) → List·Memᴰ i (range 0 (length (map (kindOfModule bits kinds) set))) → i < 4096
   small i m = let w = range-mem 0 (length (map (kindOfModule bits kinds) set)) i m in omega (arith, length-numbers)
 
-  pub at-most : r ≤ length set
-  at-most = omega (arith, done .count, kinds-few (length set) (map (rowOf bits) set), length-map set (rowOf bits))
+  pub at-most : length kinds ≤ length set
+  at-most = omega (arith, kinds-few (length set) (map (rowOf bits) set), length-map set (rowOf bits))
 
   -- a run over the order meets the numbers that are still there
   pub runs-are : subgroupsIn order ≡ still

@@ -24,8 +24,8 @@ use Rattle.subgroups.specs.Merged.{mergedKinds, positionKeys, positionKe
 use Rattle.subgroups.specs.Items.{modulesIn}
 use Rattle.subgroups.proofs.Numbered.{key-is, key-still, still-below}
 
-module _ (bits sizes set : List ℕ) (few : length set ≤ 4096) (threshold : Float) (r : ℕ) (finals kind-sizes kind-bits order : List ℕ)
-    (done : Processed bits sizes set threshold r finals kind-sizes kind-bits order) where
+module _ (bits sizes set : List ℕ) (few : length set ≤ 4096) (threshold : Float) (kind-bits order : List ℕ)
+    (done : Processed bits sizes set threshold kind-bits order) where
   abbrev kind-of : List ℕ
   kind-of = map (kindOfModule bits (kindsIn bits set)) set
 
@@ -55,13 +55,13 @@ module _ (bits sizes set : List ℕ) (few : length set ≤ 4096) (threshold : Fl
       let e : itemOf x ≡ o .0 = ap itemOf (sym (o .2)) ∙ item-packed (key (o .0)) (o .0) (omega arith) in
       omega arith
 
-  pub number-below : (x : ℕ) → List·Memᴰ x order → keyOf x < r
+  pub number-below : (x : ℕ) → List·Memᴰ x order → keyOf x < length (kindsIn bits set)
   number-below x m =
       let o = Memᴰ·of-map (positionKey numbers kind-of) positions (sort-mem ltb (positionKeys numbers kind-of) x (subst (λ l. List·Memᴰ x l) sorted m)) in
       let h = within (o .0) (o .1) in
       let e : keyOf x ≡ key (o .0) = ap keyOf (sym (o .2)) ∙ key-packed (key (o .0)) (o .0) (omega arith) in
-      let still = key-still bits sizes set few threshold r finals kind-sizes kind-bits order done (o .0) h in
-      omega (arith, still-below bits sizes set few threshold r finals kind-sizes kind-bits order done (key (o .0)) still)
+      let still = key-still bits sizes set few threshold kind-bits order done (o .0) h in
+      omega (arith, still-below bits sizes set few threshold kind-bits order done (key (o .0)) still)
 
   -- the modules of the run of s
   pub modules-are : (s : ℕ) → modulesIn set order s ≡ keep (λ m. eqb (getD numbers (kindOfModule bits (kindsIn bits set) m) 0) s) set
@@ -74,7 +74,7 @@ module _ (bits sizes set : List ℕ) (few : length set ≤ 4096) (threshold : Fl
       (packed-items key positions (λ i m. omega (arith, within i m)) s
       ∙ sorted-fixed ltb (kept-sorted mine 0 (length kind-of))
       ∙ keep-same mine (λ i. ends (getD set i 0)) positions
-      (λ i m. ap (λ (n : ℕ). eqb n s) (key-is bits sizes set few threshold r finals kind-sizes kind-bits order done i (within i m)))
+      (λ i m. ap (λ (n : ℕ). eqb n s) (key-is bits sizes set few threshold kind-bits order done i (within i m)))
       ∙ ap (λ (n : ℕ). keep (λ i. ends (getD set i 0)) (range 0 n)) (length-map set (kindOfModule bits (kindsIn bits set))))
       ∙ sym (keep-map ends (λ i. getD set i 0) (range 0 (length set)))
       ∙ ap (keep ends) (map-getD-range set 0)

@@ -12,6 +12,7 @@ use Rattle.whole.specs.Double.{toF64}
 use Rattle.bitset.specs.Entries.{empty}
 use Rattle.merge.specs.Subgroup.{Subgroup}
 use Rattle.merge.specs.Merge.{Merging, merged}
+use Rattle.merge.specs.Tables.{finalSizes}
 use Rattle.merge.specs.Engine.{stateOf}
 use Rattle.subgroups.specs.Kinds.{kindsIn, kindOfModule, sizeOfKind}
 
@@ -52,8 +53,18 @@ pub record DivisionRoom (n : ℕ) (keys spare order : List ℕ) : Type 0 where
   pub spare-room : n ≤ length spare
   pub order-fits : length order ≡ n
 
--- Afterwards: the first r rows of the tables are the state that the merge of the set's kinds ends in, and the order is the division by it.
-pub record Processed (bits sizes set : List ℕ) (threshold : Float) (r : ℕ) (finals kind-sizes kind-bits order : List ℕ) : Type 0 where
-  pub count : r ≡ length (kindsIn bits set)
-  pub state : stateOf (take r finals) (take r kind-sizes) (take (4 * r) kind-bits) ≡ mergedKinds bits sizes set threshold
+-- a row of bits for each of n modules, and a number for each
+pub record ProcessRoom (n : ℕ) (rows order : List ℕ) : Type 0 where
+  pub row-each : 4 * n ≤ length rows
+  pub order-fits : length order ≡ n
+
+-- final numbers and sizes with these rows of bits: a state of the merge of the set's kinds
+abbrev pub stateWith : List ℕ → List ℕ → Merging → List ℕ → Merging
+stateWith bits set m rows =
+    let count = length (kindsIn bits set) in
+    stateOf (m .finals) (finalSizes count m) (take (4 * count) rows)
+
+-- Afterwards: the rows hold the united bits that the merge of the set's kinds ends with, and the order is the division by its final numbers.
+pub record Processed (bits sizes set : List ℕ) (threshold : Float) (rows order : List ℕ) : Type 0 where
+  pub state : stateWith bits set (mergedKinds bits sizes set threshold) rows ≡ mergedKinds bits sizes set threshold
   pub order-is : order ≡ divided (mergedKinds bits sizes set threshold .finals) (map (kindOfModule bits (kindsIn bits set)) set)

@@ -2,3 +2,4 @@
 pub mod division;
 pub mod kinds;
 pub mod processing;
+pub mod stages;

@@ -1,40 +1,36 @@
-// An entries-aware set, divided and merged.
-use crate::division::divide;
-use crate::kinds::find_kinds;
-use merge::engine::merge_in_place;
-ghost use mathlib.Core.Path.{_≡_};
-ghost use Prim.Native.Nat.{_*_, _≤_};
+// An entries-aware set, divided and merged in tables of its own.
+use crate::stages::run_stages;
 ghost use lib.ListN.{length};
-ghost use Rattle.subgroups.specs.Finding.{Members, KindRoom};
-ghost use Rattle.subgroups.specs.Merged.{DivisionRoom, Processed};
+ghost use Rattle.subgroups.specs.Finding.{Members};
+ghost use Rattle.subgroups.specs.Merged.{ProcessRoom, Processed};
 
-// Divides an entries-aware set by equal entry bits, merges the subgroups, and lists the positions by the subgroup that each ends in.
-// Answers how many subgroups there were before the merge.
+// Divides an entries-aware set by equal entry bits, merges the subgroups, and lists the positions by the subgroup that each ends in. The rows are those
+// of the subgroups' united bits. The other tables are gone before the subgroups have their turns, which need room on the stack themselves.
 pub fn process_entries_aware_group(
     bits: &[u64],
     sizes: &[u64],
     set: &[u32],
     threshold: f64,
-    kind_of: &mut [u32],
-    kind_sizes: &mut [u64],
     kind_bits: &mut [u64],
-    finals: &mut [u32],
-    keys: &mut [u64],
-    spare: &mut [u64],
     order: &mut [u32],
-) -> usize
-    requires { ⌜ Members (now bits) (now sizes) (now set) × KindRoom (now set) (now «kind_of») (now «kind_sizes») (now «kind_bits»)
-        × (length (now set) ≤ length (now finals)) × DivisionRoom (length (now set)) (now keys) (now spare) (now order) ⌝ }
-    ensures { λ r. ⌜ Processed (now (bits .entry)) (now (sizes .entry)) (now (set .entry)) threshold r
-        (now (finals .exit)) (now («kind_sizes» .exit)) (now («kind_bits» .exit)) (now (order .exit)) ⌝ }
+)
+    requires { ⌜ Members (now bits) (now sizes) (now set) × ProcessRoom (length (now set)) (now «kind_bits») (now order) ⌝ }
+    ensures { λ _. ⌜ Processed (now (bits .entry)) (now (sizes .entry)) (now (set .entry)) threshold
+        (now («kind_bits» .exit)) (now (order .exit)) ⌝ }
 {
-    let count = find_kinds(bits, sizes, set, kind_of, kind_sizes, kind_bits);
-    merge_in_place(
-        &mut finals[..count],
-        &mut kind_sizes[..count],
-        &mut kind_bits[..4 * count],
+    let count = set.len();
+    let mut kind_of = [0u32; 4096];
+    let mut kind_sizes = [0u64; 4096];
+    let mut finals = [0u32; 4096];
+    run_stages(
+        bits,
+        sizes,
+        set,
         threshold,
+        &mut kind_of[..count],
+        &mut kind_sizes,
+        kind_bits,
+        &mut finals,
+        order,
     );
-    divide(finals, kind_of, keys, spare, order);
-    count
 }

@@ -21,44 +21,38 @@ long = omega (arith, length-replicate {A = ℕ} 4096 0)
 
 abbrev start : tie.After-match-group → tie.Start
 start m =
-    let matching = m .before .before .before .before .before in
+    let matching = m .before .before .before in
     let entered = matching .before .before .before .before .before .before .before .before .before .before .before .before in
     entered .before .before .before .before .before .before .before .before .before .before
 
 -- the matched modules are written to the front of it
 abbrev area : tie.After-match-group → List ℕ
-area m = m .match-group .last .1 .1 .1 .1 .1 .1 .1 .1 .0
+area m = m .match-group .last .1 .1 .1 .1 .1 .1 .0
 
 few : (m : tie.After-match-group) → m .match-group .result ≤ 4096
 few m = let p = start m .pre .0 in found-few (p .turning .b) (p .turning .fits) (p .fits) (m .match-group .ensures)
 
 room : (m : tie.After-match-group) → m .match-group .result ≤ length (area m)
-room m = omega (arith, few m, m .match-group .kept .1 .1 .1 .1 .1 .1 .1 .1 .0, long)
+room m = omega (arith, few m, m .match-group .kept .1 .1 .1 .1 .1 .1 .0, long)
 
 slice-aggregate-match-group : tie.Need-slice-aggregate-match-group
 slice-aggregate-match-group c = search needs
 
-slice-aggregate-match-group-2 : tie.Need-slice-aggregate-match-group-2
-slice-aggregate-match-group-2 c = search needs
-
-slice-aggregate-match-group-3 : tie.Need-slice-aggregate-match-group-3
-slice-aggregate-match-group-3 c = search needs
-
 match-group-requires : tie.Need-match-group-requires
 match-group-requires c κs =
     let entered = c .before .before .before .before .before .before .before .before .before .before .before .before in
-    let p = entered .before .before .before .before .before .before .before .before .before .before .before .before .before .before .pre .0 in
-    group-ready (p .turning .b) (p .turning .fits) (p .fits) _ _ _ long long long
+    let p = entered .before .before .before .before .before .before .before .before .before .before .before .before .pre .0 in
+    group-ready (p .turning .b) (p .turning .fits) (p .fits) _ long
 
 array-share-prefix-matched : tie.Need-array-share-prefix-matched
-array-share-prefix-matched c = room (c .before .before .before)
+array-share-prefix-matched c = room (c .before)
 
 slice-aggregate-convert-names : tie.Need-slice-aggregate-convert-names
-slice-aggregate-convert-names c = let m = c .before .before .before .before in sym (length-take-le (m .match-group .result) (area m) (room m))
+slice-aggregate-convert-names c = let m = c .before .before in sym (length-take-le (m .match-group .result) (area m) (room m))
 
 convert-names-requires : tie.Need-convert-names-requires
 convert-names-requires c κs =
-    let m = c .before .before .before .before .before .before .before .before .before .before .before .before .before in
+    let m = c .before .before .before .before .before .before .before .before .before .before .before in
     let s = start m in
     let p = s .pre .0 in
     (record { turning = p .turning; fits = group-fits (p .turning .b) (p .turning .fits) (p .fits) (m .match-group .ensures) }, s .pre .1)
@@ -94,7 +88,7 @@ returns : tie.Need-returns
 returns c =
     let called =
     c .before .before .before .before .before .before .before .before .before .before .before .before .before .before .before .before .before .before in
-    let m = called .before .before .before .before .before .before .before .before .before .before .before .before .before .before in
+    let m = called .before .before .before .before .before .before .before .before .before .before .before .before in
     let e = called .convert-names .ensures in
     (group-turned (m .match-group .ensures) (e .0), e .1)
 
@@ -103,8 +97,6 @@ convert-group-spec =
     tie.close
     (tie.spec
     slice-aggregate-match-group
-    slice-aggregate-match-group-2
-    slice-aggregate-match-group-3
     match-group-requires
     array-share-prefix-matched
     slice-aggregate-convert-names

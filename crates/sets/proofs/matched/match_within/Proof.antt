@@ -1,4 +1,4 @@
--- `sets::matched::match_group` meets its contract: what is gathered is sorted and copied.
+-- `sets::matched::match_within` meets its contract: what is gathered is sorted and copied.
 use Prim.Native.Nat.{ℕ, _≤_}
 use mathlib.Core.List.{List, _++_}
 use mathlib.Core.Path.{sym, _∙_, subst}
@@ -9,8 +9,8 @@ use lib.Seq.{length-take-le}
 use Rattle.sets.specs.Matched.{Matching, Narrow}
 use Rattle.sets.proofs.Building.{front-room}
 use Rattle.sets.proofs.MatchedKeys.{count-few, sorted-front, sorted-fits, sorted-narrow, sorted-holds}
-use Rattle.sets.proofs.matched.match_group.Statement.{statement}
-use Rattle.sets.proofs.matched.match_group.Tie as tie
+use Rattle.sets.proofs.matched.match_within.Statement.{statement}
+use Rattle.sets.proofs.matched.match_within.Tie as tie
 
 abbrev entry : tie.After-gather-matched → tie.Start
 entry k = k .before .before .before .before .before .before .before .before .before .before
@@ -104,8 +104,8 @@ returns c =
     let e = c .before .before .before .before .before .before .before .before .before .sort-numbers .ensures .sorted in
     sorted-holds g o h _ (c .before .before .store-matched .ensures ∙ sorted-front g o h _ e)
 
-pub match-group-spec : {M : Type 1} → statement M
-match-group-spec =
+pub match-within-spec : {M : Type 1} → statement M
+match-within-spec =
     tie.close
     (tie.spec
     gather-matched-requires
