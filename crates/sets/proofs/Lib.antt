@@ -2,6 +2,7 @@
 pub mod Writing
 pub mod Gathering
 pub mod Marking
+pub mod Placing
 pub mod Starts
 pub mod Building
 pub mod MatchedKeys
@@ -9,4 +10,3 @@ pub mod TakesAt
 pub mod FromPassed
 pub mod NamesMatched
 pub mod BuiltSets
-pub mod Ready
