@@ -13,3 +13,4 @@ pub mod Start
 pub mod Ladder
 pub mod Accepted
 pub mod WrittenOnce
+pub mod Storing

@@ -47,10 +47,11 @@ pub record WalkReady (flags first dependency next : List ℕ) (n d : ℕ) (w : W
   pub state : WalkState flags n w
   pub clear : followed ≡ unfollowed
 
--- What a walk leaves: the marks of all that is reached from the modules that were marked before. What the list then holds is free.
-pub record Walked (flags first dependency next : List ℕ) (n d : ℕ) (before after : List ℕ) : Type 0 where
-  pub marked : Marks (Reached (Eligible flags) (Names first dependency next d) (λ m. getD before m 0 ≡ 1)) n after
-  pub same-length : length after ≡ length before
+-- What a walk leaves: the marks of all that is reached from the modules that were marked before, and all of these on the list.
+pub record Walked (flags first dependency next : List ℕ) (n d : ℕ) (before : List ℕ) (after : Walk) : Type 0 where
+  pub marked : Marks (Reached (Eligible flags) (Names first dependency next d) (λ m. getD before m 0 ≡ 1)) n (after .marks)
+  pub state : WalkState flags n after
+  pub same-length : length (after .marks) ≡ length before
 
 -- what a walk from one module needs
 pub record StartReady (flags first dependency next : List ℕ) (n d from : ℕ) (marks queue : List ℕ) : Type 0 where

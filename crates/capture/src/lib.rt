@@ -1,6 +1,7 @@
 // The capture of a module: what it reaches along its dependencies through eligible modules.
 pub mod clear;
 pub mod forget;
+pub mod store;
 pub mod walk;
 
 use index::ModuleIdx;

@@ -65,7 +65,8 @@ fn follow(
     found
 }
 
-// Marks all that is reached from the modules marked so far, which are the first `tail` of the list. Zero, which ends a chain, counts as followed.
+// Marks all that is reached from the modules marked so far, which are the first `tail` of the list. Answers how many are on the list then. Zero, which
+// ends a chain, counts as followed.
 pub fn walk(
     flags: &[u8],
     first: &[u32],
@@ -75,11 +76,11 @@ pub fn walk(
     queue: &mut [u32],
     followed: &mut [u8],
     tail: usize,
-)
+) -> usize
     requires { ⌜ WalkReady (now flags) (now first) (now dependency) (now next) (length (now flags)) (length (now next) - 1)
         (record { marks = now marks; queue = now queue; tail = tail }) (now followed) ⌝ }
-    ensures { λ _. ⌜ Walked (now (flags .entry)) (now (first .entry)) (now (dependency .entry)) (now (next .entry)) (length (now (flags .entry)))
-        (length (now (next .entry)) - 1) (now (marks .entry)) (now (marks .exit)) ⌝ }
+    ensures { λ r. ⌜ Walked (now (flags .entry)) (now (first .entry)) (now (dependency .entry)) (now (next .entry)) (length (now (flags .entry)))
+        (length (now (next .entry)) - 1) (now (marks .entry)) (record { marks = now (marks .exit); queue = now (queue .exit); tail = r }) ⌝ }
     ensures { λ _. ⌜ now (followed .exit) ≡ unfollowed ⌝ }
 {
     let mut found = tail;
@@ -101,4 +102,5 @@ pub fn walk(
         head = head + 1;
     }
     forget_all(first, next, &queue[..found], followed);
+    found
 }

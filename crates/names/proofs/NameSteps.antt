@@ -77,9 +77,9 @@ module _ {t : Tables} {w : Walking} {bits : List ℕ} {settings : Settings} {gro
     pub place-now : at + made ≤ length (entry .group-of)
     place-now = omega (arith, begun-place (pre .turning .fits .passed) begun-now, d .lengths .group-of)
 
-    module _ {to : ℕ} (e : RunEnd matched from to) {count : ℕ} {marks area : List ℕ}
+    module _ {to : ℕ} (e : RunEnd matched from to) {count : ℕ} {area : List ℕ}
         (built : SetBuilt (settings .recursive) (w .flags) (w .first) (w .dependency) (w .next) (w .order)
-        (take (to - from) (drop from matched)) count marks area) where
+        (take (to - from) (drop from matched)) count area) where
       abbrev name : ℕ
       name = keyOf (getD matched from 0)
 

@@ -1,11 +1,11 @@
 -- The set of one name, from the run of the name among the matched modules of its group.
 use Prim.Native.Nat.{ℕ, _+_, _-_, _≤_, _<_}
-use mathlib.Core.Bool.{false}
+use mathlib.Core.Bool.{Bool, true, false}
 use mathlib.Core.List.{List, List·Memᴰ}
 use mathlib.Core.Path.{_≡_, refl, sym, ap, _∙_, subst, subst₂}
 use native.Mathlib.Omega.{arith}
 use lib.Dec.{eqb}
-use lib.ListN.{length, getD, take, drop, length-map, length-drop}
+use lib.ListN.{length, getD, take, drop, replicate, length-map, length-drop}
 use lib.Seq.{length-take-le, getD-take, getD-drop}
 use Rattle.lists.specs.Keep.{keep}
 use Rattle.lists.specs.Packed.{keyOf, itemOf}
@@ -32,9 +32,10 @@ use Rattle.running.specs.Fits.{Walking}
 use Rattle.running.proofs.Tests.{passed-sound}
 use Rattle.sets.specs.Area.{Holds}
 use Rattle.sets.specs.Built.{SetReady, SetBuilt}
+use Rattle.sets.specs.Gathered.{PlacesFree, PlacesAre}
 use Rattle.sets.specs.Matched.{keysOf, RunEnd}
 use Rattle.sets.specs.OfBuild.{matchingOf, matchedOf, runOf}
-use Rattle.sets.proofs.FromPassed.{flag-bytes, record-tables}
+use Rattle.sets.proofs.FromPassed.{flag-bytes, places-few, record-tables}
 use Rattle.sets.proofs.BuiltSets.{set-built}
 use Rattle.names.specs.Turn.{GroupFits}
 use Rattle.names.proofs.Matched.{matched-few, matched-place}
@@ -76,6 +77,19 @@ module _ {b : Given} {w : Walking} {settings : Settings} {group : ℕ} {matched 
   module-in : (i : ℕ) → i < length (w .order) → getD (w .order) i 0 < length (w .flags)
   module-in = rw (fits .walks .order, fits .walks .flags) (λ i h. omega (arith, places-mem b (moduleAt b i) (getD-mem (placesOf b) i 0 h) .0, flag-bytes b ok))
 
+  order-small : length (w .order) ≤ 4096
+  order-small = omega (arith, places-few b ok, ap length (fits .walks .order))
+
+  -- each module has one place
+  pub places-free : {place : List ℕ} → length (w .flags) ≤ length place → ((m : ℕ) → getD place m 0 < 4096) → PlacesFree (w .order) place
+  places-free h s =
+      record {
+        few = order-small;
+        distinct = rw (fits .walks .order) (places-distinct b (passed-sound b ok));
+        room = λ i l. omega (arith, module-in i l);
+        small = s;
+      }
+
   place-in : (x : ℕ) → List·Memᴰ x matched → itemOf x < length (w .order)
   place-in = rw (fits .matched-are, fits .walks .order) (matched-place b ok group (fits .inside))
 
@@ -89,16 +103,20 @@ module _ {b : Given} {w : Walking} {settings : Settings} {group : ℕ} {matched 
         subst (λ (x : ℕ). itemOf x < length (w .order)) (sym (getD-take (to - from) (drop from matched) i 0 u ∙ getD-drop from matched i 0))
         (place-in _ (getD-mem matched (from + i) 0 (omega arith)))
 
-    pub set-ready : {marks queue followed area : List ℕ} → length marks ≡ length (w .flags) → length (w .flags) ≤ length queue → followed ≡ unfollowed
+    pub set-ready : {recursive : Bool} {place marks queue followed area : List ℕ} → (recursive ≡ true → PlacesAre (w .order) place)
+        → length (w .flags) ≤ length place → marks ≡ replicate (length (w .flags)) 0 → length (w .flags) ≤ length queue → followed ≡ unfollowed
         → length (w .flags) ≤ length area
-        → SetReady (w .flags) (w .first) (w .dependency) (w .next) (w .order) (part from to) marks queue followed area
-    set-ready m q f a =
+        → SetReady recursive (w .flags) (w .first) (w .dependency) (w .next) (w .order) place (part from to) marks queue followed area
+    set-ready are p m q f a =
         record {
           tables = walk-tables;
-          mark-bytes = m;
+          unmarked = m;
           queue-room = q;
           clear = f;
+          few = order-small;
           modules-in = module-in;
+          places = are;
+          place-room = p;
           placed = run-placed;
           room = omega (arith, order-few);
           run-room = omega (arith, run-length, order-few, matched-few b ok group (fits .inside), ap length (fits .matched-are), ap length (fits .walks .order));
@@ -112,8 +130,8 @@ module _ {b : Given} {w : Walking} {settings : Settings} {group : ℕ} {matched 
   pub places-placed : (name : ℕ) → Placed (length (placesOf b)) (setOf settings group (treeOf b) name)
   places-placed name = subst (λ (n : ℕ). Placed n (setOf settings group (treeOf b) name)) (tree-length b) (set-placed settings group (treeOf b) name)
 
-  module _ {name from to count : ℕ} {marks area : List ℕ} (run : Run keyOf matched 0 name from to)
-      (built : SetBuilt (settings .recursive) (w .flags) (w .first) (w .dependency) (w .next) (w .order) (part from to) count marks area) where
+  module _ {name from to count : ℕ} {area : List ℕ} (run : Run keyOf matched 0 name from to)
+      (built : SetBuilt (settings .recursive) (w .flags) (w .first) (w .dependency) (w .next) (w .order) (part from to) count area) where
     run-all : part from to ≡ runOf b group name
     unfolding runOf
     run-all = sym (run-keeps keyOf run) ∙ ap (keep (λ x. eqb (keyOf x) name)) (fits .matched-are)

@@ -1,5 +1,6 @@
 // The sets of one group turned into chunks, name by name.
 use bitset::entries::BitSet;
+use capture::clear::clear_bytes;
 use emitting::emit::Head;
 use entries_aware::convert_subgroups;
 use index::ChunkIdx;
@@ -7,6 +8,7 @@ use items::convert::Limits;
 use items::convert::convert_item_to_chunks;
 use options::Settings;
 use sets::built::build_set;
+use sets::gathered::store_places;
 use sets::matched::run_end;
 ghost use mathlib.Core.Path.{_≡_};
 ghost use Prim.Native.Nat.{_*_, _≤_};
@@ -198,6 +200,9 @@ pub fn convert_names(
     ensures { λ _. ⌜ (length (now (marks .exit)) ≡ length (now (marks .entry))) × (length (now (set .exit)) ≡ length (now (set .entry)))
         × (length (now (scratch .exit)) ≡ length (now (scratch .entry))) × (now (followed .exit) ≡ unfollowed) ⌝ }
 {
+    clear_bytes(marks);
+    let mut place = [0u32; 4096];
+    store_places(settings.recursive, order, &mut place);
     let mut made = 0;
     let mut from = 0;
     while from < matched.len() {
@@ -209,6 +214,7 @@ pub fn convert_names(
             dependency,
             next,
             order,
+            &place,
             &matched[from..to],
             marks,
             &mut scratch[..n],

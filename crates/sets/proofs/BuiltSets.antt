@@ -31,8 +31,9 @@ use Rattle.grouping_laws.proofs.SetPlaces.{Placed, set-placed}
 use Rattle.grouping_laws.proofs.SetsAreCaptures.{captureFrom, TakesPart, InSet, SetIsUnion, set-captures}
 use Rattle.settling.specs.Modules.{Passed, moduleAt, modulesAt}
 use Rattle.sets.specs.Area.{Holds}
-use Rattle.sets.specs.Built.{markedIn, startsOf, SetBuilt}
+use Rattle.sets.specs.Built.{startsOf, SetBuilt}
 use Rattle.sets.specs.Captured.{AllCaptured}
+use Rattle.sets.specs.Gathered.{markedIn}
 use Rattle.sets.specs.OfBuild.{runOf, takingPlaces}
 use Rattle.sets.proofs.FromPassed.{flag-bytes, record-tables}
 use Rattle.sets.proofs.NamesMatched.{run-starts}
@@ -188,18 +189,19 @@ module _ (b : Given) (ok : Passed b) (g : ℕ) (h : g < b .variant .g) (name : �
 
   -- ---- the set
 
-  pub set-built : {run : List ℕ} {n : ℕ} {marks area : List ℕ} → run ≡ runOf b g name
-      → SetBuilt (settingsOf b g .recursive) (b .variant .flags) (b .shared .first) (b .shared .dependency) (b .shared .next) (placesOf b) run n marks area
+  pub set-built : {run : List ℕ} {n : ℕ} {area : List ℕ} → run ≡ runOf b g name
+      → SetBuilt (settingsOf b g .recursive) (b .variant .flags) (b .shared .first) (b .shared .dependency) (b .shared .next) (placesOf b) run n area
       → Holds (modulesAt b places) n area
-  set-built {run} {n} {marks} {area} e s = go (settingsOf b g .recursive) refl
+  set-built {run} {n} {area} e s = go (settingsOf b g .recursive) refl
     where
       from : startsOf (placesOf b) run ≡ starts
       from = ap (startsOf (placesOf b)) e ∙ run-starts b ok g h name
 
       go : (t : Bool) → settingsOf b g .recursive ≡ t → Holds (modulesAt b places) n area
       go true on =
+          let x = s .captured on in
           subst (λ (l : List ℕ). Holds l n area)
-          (marked-places on marks
-          (subst (λ (l : List ℕ). AllCaptured (b .variant .flags) (b .shared .first) (b .shared .dependency) (b .shared .next) l marks) from (s .marked on)))
-          (s .captured on)
+          (marked-places on (x .marks)
+          (subst (λ (l : List ℕ). AllCaptured (b .variant .flags) (b .shared .first) (b .shared .dependency) (b .shared .next) l (x .marks)) from (x .marked)))
+          (x .holds)
       go false off = subst (λ (l : List ℕ). Holds l n area) (from ∙ ap (map (moduleAt b)) (alone-places off)) (s .alone off)

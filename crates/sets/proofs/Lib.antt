@@ -2,11 +2,12 @@
 pub mod Writing
 pub mod Gathering
 pub mod Marking
+pub mod Placing
 pub mod Starts
 pub mod Building
 pub mod MatchedKeys
 pub mod TakesAt
 pub mod FromPassed
+pub mod Ready
 pub mod NamesMatched
 pub mod BuiltSets
-pub mod Ready

@@ -34,10 +34,14 @@ module _ {list : List ℕ} {i count : ℕ} {area₀ area : List ℕ} (w : Writin
         same-length = rw length-set (w .same-length);
       }
 
-  -- an element is passed over
-  pub none-more : {same : List ℕ} → same ≡ list → Writing same (i + 1) count area₀ area
-  none-more {same} e =
+  -- elements are passed over
+  pub none-until : {same : List ℕ} {j : ℕ} → i ≤ j → same ≡ list → Writing same j count area₀ area
+  none-until h e =
       record { holds = subst (λ (l : List ℕ). Holds l count area) (sym e) (w .holds); few = omega (arith, w .few); same-length = w .same-length }
+
+  -- one of them
+  pub none-more : {same : List ℕ} → same ≡ list → Writing same (i + 1) count area₀ area
+  none-more e = none-until (omega arith) e
 
   pub has-room : i < length area₀ → count < length area
   has-room h = omega (arith, w .few, w .same-length)

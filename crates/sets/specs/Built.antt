@@ -3,19 +3,13 @@ use Prim.Native.Nat.{ℕ, _-_, _≤_, _<_}
 use mathlib.Core.Bool.{Bool, true, false}
 use mathlib.Core.List.{List, map}
 use mathlib.Core.Path.{_≡_}
-use lib.Dec.{eqb}
-use lib.ListN.{length, getD}
-use Rattle.lists.specs.Keep.{keep}
+use lib.ListN.{length, getD, replicate}
 use Rattle.lists.specs.Packed.{itemOf}
 use Rattle.capture.specs.Followed.{unfollowed}
 use Rattle.capture.specs.Walk.{WalkTables}
 use Rattle.sets.specs.Area.{Holds}
 use Rattle.sets.specs.Captured.{AllCaptured}
-
--- the modules that are marked, in execution order
-unfoldable pub markedIn : List ℕ → List ℕ → List ℕ
-unfolding keep
-markedIn marks order = keep (λ m. eqb (getD marks m 0) 1) order
+use Rattle.sets.specs.Gathered.{markedIn, PlacesAre}
 
 -- the module at the place of a number that holds a name and a place
 abbrev pub startAt : List ℕ → ℕ → ℕ
@@ -25,28 +19,31 @@ startAt order x = getD order (itemOf x) 0
 abbrev pub startsOf : List ℕ → List ℕ → List ℕ
 startsOf order run = map (startAt order) run
 
--- each module has a mark, and there is room for all of them
-pub record MarkedReady (order marks area : List ℕ) : Type 0 where
-  pub has-mark : (i : ℕ) → i < length order → getD order i 0 < length marks
-  pub room : length order ≤ length area
-
 -- each number of the run holds a place of the order
 abbrev pub Placed : List ℕ → List ℕ → Type 0
 Placed run order = (i : ℕ) → i < length run → itemOf (getD run i 0) < length order
 
--- the tables of a walk, places for the run, and room for all modules
-pub record SetReady (flags first dependency next order run marks queue followed area : List ℕ) : Type 0 where
+-- the tables of a walk, with nothing marked, places for the run, and room for all modules; with recursion on, the place of each module
+pub record SetReady (recursive : Bool) (flags first dependency next order place run marks queue followed area : List ℕ) : Type 0 where
   pub tables : WalkTables flags first dependency next (length flags) (length next - 1)
-  pub mark-bytes : length marks ≡ length flags
+  pub unmarked : marks ≡ replicate (length flags) 0
   pub queue-room : length flags ≤ length queue
   pub clear : followed ≡ unfollowed
+  pub few : length order ≤ 4096
   pub modules-in : (i : ℕ) → i < length order → getD order i 0 < length flags
+  pub places : recursive ≡ true → PlacesAre order place
+  pub place-room : length flags ≤ length place
   pub placed : Placed run order
   pub room : length order ≤ length area
   pub run-room : length run ≤ length area
 
+-- what the modules of the run capture, in execution order
+pub record SetCaptured (flags first dependency next order run : List ℕ) (count : ℕ) (area : List ℕ) : Type 0 where
+  pub marks : List ℕ
+  pub marked : AllCaptured flags first dependency next (startsOf order run) marks
+  pub holds : Holds (markedIn marks order) count area
+
 -- "puts its capture into the set of its (group, name)"; "with recursion off, the start alone"
-pub record SetBuilt (recursive : Bool) (flags first dependency next order run : List ℕ) (count : ℕ) (marks area : List ℕ) : Type 0 where
+pub record SetBuilt (recursive : Bool) (flags first dependency next order run : List ℕ) (count : ℕ) (area : List ℕ) : Type 0 where
   pub alone : recursive ≡ false → Holds (startsOf order run) count area
-  pub marked : recursive ≡ true → AllCaptured flags first dependency next (startsOf order run) marks
-  pub captured : recursive ≡ true → Holds (markedIn marks order) count area
+  pub captured : recursive ≡ true → SetCaptured flags first dependency next order run count area

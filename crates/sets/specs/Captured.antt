@@ -2,11 +2,11 @@
 use Prim.Native.Nat.{ℕ, _-_, _≤_, _<_}
 use mathlib.Core.List.{List, List·Memᴰ}
 use mathlib.Core.Path.{_≡_}
-use lib.ListN.{length, getD}
+use lib.ListN.{length, getD, replicate}
 use Rattle.capture.specs.Reached.{Reached, Marks}
 use Rattle.capture.specs.Capture.{Eligible, Names}
 use Rattle.capture.specs.Followed.{unfollowed}
-use Rattle.capture.specs.Walk.{WalkTables, WalkState}
+use Rattle.capture.specs.Walk.{Walk, WalkTables, WalkState}
 
 -- each start is one of the n modules
 abbrev pub StartsIn : List ℕ → ℕ → Type 0
@@ -17,11 +17,11 @@ pub record StartsReady (flags starts marks queue : List ℕ) : Type 0 where
   pub state : WalkState flags (length flags) (record { marks = marks; queue = queue; tail = 0 })
   pub starts-in : StartsIn starts (length flags)
 
--- what a walk from the starts needs
+-- what a walk from the starts needs; nothing is marked
 pub record AllReady (flags first dependency next starts marks queue followed : List ℕ) : Type 0 where
   pub tables : WalkTables flags first dependency next (length flags) (length next - 1)
   pub starts-in : StartsIn starts (length flags)
-  pub mark-bytes : length marks ≡ length flags
+  pub unmarked : marks ≡ replicate (length flags) 0
   pub room : length flags ≤ length queue
   pub clear : followed ≡ unfollowed
 
@@ -29,3 +29,8 @@ pub record AllReady (flags first dependency next starts marks queue followed : L
 abbrev pub AllCaptured : List ℕ → List ℕ → List ℕ → List ℕ → List ℕ → List ℕ → Type 0
 AllCaptured flags first dependency next starts marks =
     Marks (Reached (Eligible flags) (Names first dependency next (length next - 1)) (λ m. List·Memᴰ m starts)) (length flags) marks
+
+-- they are marked, and just these are on the list
+pub record AllFound (flags first dependency next starts : List ℕ) (w : Walk) : Type 0 where
+  pub captured : AllCaptured flags first dependency next starts (w .marks)
+  pub state : WalkState flags (length flags) w

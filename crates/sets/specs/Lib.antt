@@ -2,5 +2,6 @@
 pub mod Area
 pub mod Matched
 pub mod Captured
+pub mod Gathered
 pub mod Built
 pub mod OfBuild

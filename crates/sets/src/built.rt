@@ -1,28 +1,11 @@
 // The set of one name: what the modules capture that take part with it, in execution order.
 use crate::captured::capture_all;
+use crate::gathered::gather_set;
+use capture::store::store_bytes;
 ghost use mathlib.Core.Path.{_≡_};
-ghost use lib.ListN.{length};
+ghost use lib.ListN.{length, replicate};
 ghost use Rattle.capture.specs.Followed.{unfollowed};
-ghost use Rattle.sets.specs.Area.{Holds};
-ghost use Rattle.sets.specs.Built.{markedIn, startsOf, MarkedReady, Placed, SetReady, SetBuilt};
-
-// Writes the modules that are marked, in execution order. Answers how many there are.
-fn gather_set(order: &[u32], marks: &[u8], set: &mut [u32]) -> usize
-    requires { ⌜ MarkedReady (now order) (now marks) (now set) ⌝ }
-    ensures { λ r. ⌜ Holds (markedIn (now (marks .entry)) (now (order .entry))) r (now (set .exit)) ⌝ }
-{
-    let mut count = 0;
-    let mut i = 0;
-    while i < order.len() {
-        let m = order[i];
-        if marks[m as usize] == 1 {
-            set[count] = m;
-            count = count + 1;
-        }
-        i = i + 1;
-    }
-    count
-}
+ghost use Rattle.sets.specs.Built.{startsOf, Placed, SetReady, SetBuilt};
 
 // Writes the modules that take part: those at the places of a run.
 pub fn store_starts(run: &[u32], order: &[u32], set: &mut [u32])
@@ -36,7 +19,8 @@ pub fn store_starts(run: &[u32], order: &[u32], set: &mut [u32])
     }
 }
 
-// The set of one name, from the run of the modules that take part with it. Answers how many modules it has.
+// The set of one name, from the run of the modules that take part with it. Answers how many modules it has. Marks are undone along the list of the
+// walk, so that nothing is marked between two sets.
 pub fn build_set(
     recursive: bool,
     flags: &[u8],
@@ -44,23 +28,25 @@ pub fn build_set(
     dependency: &[u32],
     next: &[u32],
     order: &[u32],
+    place: &[u32],
     run: &[u32],
     marks: &mut [u8],
     queue: &mut [u32],
     followed: &mut [u8],
     set: &mut [u32],
 ) -> usize
-    requires { ⌜ SetReady (now flags) (now first) (now dependency) (now next) (now order) (now run) (now marks) (now queue) (now followed) (now set) ⌝ }
+    requires { ⌜ SetReady recursive (now flags) (now first) (now dependency) (now next) (now order) (now place) (now run) (now marks) (now queue)
+        (now followed) (now set) ⌝ }
     ensures { λ r. ⌜ SetBuilt recursive (now (flags .entry)) (now (first .entry)) (now (dependency .entry)) (now (next .entry))
-        (now (order .entry)) (now (run .entry)) r (now (marks .exit)) (now (set .exit)) ⌝ }
-    ensures { λ _. ⌜ now (followed .exit) ≡ unfollowed ⌝ }
+        (now (order .entry)) (now (run .entry)) r (now (set .exit)) ⌝ }
+    ensures { λ _. ⌜ (now (marks .exit) ≡ replicate (length (now (flags .entry))) 0) × (now (followed .exit) ≡ unfollowed) ⌝ }
 {
     let count = run.len();
     store_starts(run, order, &mut set[..count]);
     if !recursive {
         return count;
     }
-    capture_all(
+    let found = capture_all(
         flags,
         first,
         dependency,
@@ -70,5 +56,7 @@ pub fn build_set(
         queue,
         followed,
     );
-    gather_set(order, marks, set)
+    let size = gather_set(order, place, &queue[..found], marks, set);
+    store_bytes(0, &queue[..found], marks);
+    size
 }

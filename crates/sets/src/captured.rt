@@ -1,5 +1,4 @@
 // What several modules capture together: a walk that starts with all of them on its list.
-use capture::clear::clear_bytes;
 use capture::walk::visit;
 use capture::walk::walk;
 use index::ModuleIdx;
@@ -9,7 +8,7 @@ ghost use Prim.Native.Nat.{_-_};
 ghost use lib.ListN.{length};
 ghost use Rattle.capture.specs.Followed.{unfollowed};
 ghost use Rattle.capture.specs.Walk.{visited};
-ghost use Rattle.sets.specs.Captured.{StartsReady, AllReady, AllCaptured};
+ghost use Rattle.sets.specs.Captured.{StartsReady, AllReady, AllFound};
 
 // Marks each start and puts it on the list. Answers how many are on it.
 fn mark_starts(flags: &[u8], starts: &[u32], marks: &mut [u8], queue: &mut [u32]) -> usize
@@ -26,7 +25,7 @@ fn mark_starts(flags: &[u8], starts: &[u32], marks: &mut [u8], queue: &mut [u32]
     tail
 }
 
-// Marks all that is reached from the starts.
+// Marks all that is reached from the starts, where nothing is marked yet. Answers how many modules are on the list then.
 pub fn capture_all(
     flags: &[u8],
     first: &[u32],
@@ -36,13 +35,12 @@ pub fn capture_all(
     marks: &mut [u8],
     queue: &mut [u32],
     followed: &mut [u8],
-)
+) -> usize
     requires { ⌜ AllReady (now flags) (now first) (now dependency) (now next) (now starts) (now marks) (now queue) (now followed) ⌝ }
-    ensures { λ _. ⌜ AllCaptured (now (flags .entry)) (now (first .entry)) (now (dependency .entry)) (now (next .entry))
-        (now (starts .entry)) (now (marks .exit)) ⌝ }
+    ensures { λ r. ⌜ AllFound (now (flags .entry)) (now (first .entry)) (now (dependency .entry)) (now (next .entry))
+        (now (starts .entry)) (record { marks = now (marks .exit); queue = now (queue .exit); tail = r }) ⌝ }
     ensures { λ _. ⌜ now (followed .exit) ≡ unfollowed ⌝ }
 {
-    clear_bytes(marks);
     let tail = mark_starts(flags, starts, marks, queue);
-    walk(flags, first, dependency, next, marks, queue, followed, tail);
+    walk(flags, first, dependency, next, marks, queue, followed, tail)
 }

@@ -1,53 +1,57 @@
--- `names::convert_names` meets its contract. The loop's invariant: the names before the run at `from` have had their turns.
+-- `names::convert_names` meets its contract. The loop's invariant: the names before the run at `from` have had their turns, and nothing is marked.
 use Prim.Native.Nat.{ℕ, _-_, _≤_}
 use mathlib.Core.List.{List, _++_}
-use mathlib.Core.Path.{_≡_, refl, sym, _∙_}
+use mathlib.Core.Path.{_≡_, refl, sym, ap, _∙_}
 use native.Mathlib.Omega.{arith}
-use lib.ListN.{length, take, drop, length-append, length-drop}
+use borrow.Author.Needs.{needs}
+use lib.ListN.{length, take, drop, replicate, length-append, length-drop, length-replicate}
 use lib.Seq.{length-take-le}
+use Rattle.records.proofs.Stored.{zeros}
 use Rattle.capture.specs.Followed.{unfollowed}
 use Rattle.capture.proofs.Trail.{unfollowed-bytes}
-use Rattle.names.proofs.SetOfRun.{set-ready}
+use Rattle.names.proofs.SetOfRun.{places-free, set-ready}
 use Rattle.names.proofs.NameSteps.{NamesDone, names-start, number-now, place-now, count-in, set-turning, number-next, names-next, names-turned}
 use Rattle.names.proofs.convert_names.Statement.{statement}
 use Rattle.names.proofs.convert_names.Tie as tie
 
 abbrev Inv-loop : tie.InvT-loop
 Inv-loop settings group matched n flags first dependency next order sizes bits bytes offsets rank number at marks₀ followed₀ set₀ scratch₀
-    chunk-of₀ group-of₀ name-of₀ size-of₀ bits-of₀ made₀ from₀ marks followed set scratch chunk-of group-of name-of size-of bits-of made from =
+    chunk-of₀ group-of₀ name-of₀ size-of₀ bits-of₀ place made₀ from₀ marks followed set scratch chunk-of group-of name-of size-of bits-of made from =
     NamesDone (record { bytes = bytes; offsets = offsets; sizes = sizes; rank = rank })
     (record { flags = flags; first = first; dependency = dependency; next = next; order = order }) bits settings group matched (number .0) at
     (record { chunk-of = chunk-of₀; group-of = group-of₀; name-of = name-of₀; size-of = size-of₀; bits-of = bits-of₀ }) from made
     (record { chunk-of = chunk-of; group-of = group-of; name-of = name-of; size-of = size-of; bits-of = bits-of })
-    × (length marks ≡ length marks₀) × (length set ≡ length set₀) × (length scratch ≡ length scratch₀) × (followed ≡ unfollowed)
+    × (marks ≡ replicate (length flags) 0) × (length set ≡ length set₀) × (length scratch ≡ length scratch₀) × (followed ≡ unfollowed)
 
 abbrev μ-loop : tie.MeasureT-loop
-μ-loop settings group matched n flags first dependency next order sizes bits bytes offsets rank number at marks₀ followed₀ set₀ scratch₀
-    chunk-of₀ group-of₀ name-of₀ size-of₀ bits-of₀ made₀ from₀ marks followed set scratch chunk-of group-of name-of size-of bits-of made from =
+μ-loop settings group matched n flags first dependency next order sizes bits bytes offsets rank number at marks₀ followed₀ set₀ scratch₀ chunk-of₀
+    group-of₀ name-of₀ size-of₀ bits-of₀ place made₀ from₀ marks followed set scratch chunk-of group-of name-of size-of bits-of made from =
     length matched - from
 
 -- ---- what is known in a turn: at its start, with the end of the run, with the set, and with its chunks
 
 abbrev start : tie.At-loop Inv-loop μ-loop → tie.Start Inv-loop μ-loop
-start l =
-    l .before .before .before .before .before .before .before .before .before .before .before .before .before .before .before .before .before
-    .before .before .before .before
+start l = l .before .before .before .before .before .before .before .before .before .before .before .before .before .before .before .before .before
+    .before .before .before .before .before .before .before .before .before .before .before
+
+abbrev placed : tie.At-loop Inv-loop μ-loop → tie.After-store-places Inv-loop μ-loop
+placed l = l .before .before
 
 abbrev head : tie.After-run-end Inv-loop μ-loop → tie.At-loop Inv-loop μ-loop
 head k = k .before .before
 
 abbrev run : tie.After-build-set Inv-loop μ-loop → tie.After-run-end Inv-loop μ-loop
-run k = k .before .before .before .before .before .before
+run k = k .before .before .before .before .before .before .before
 
 abbrev set : tie.After-convert-set Inv-loop μ-loop → tie.After-build-set Inv-loop μ-loop
-set k =
-    k .before .before .before .before .before .before .before .before .before .before .before .before .before .before .before .before .before .before
+set k = k .before .before .before .before .before .before .before .before .before .before .before .before .before .before .before .before .before
+    .before
 
 abbrev area : tie.After-build-set Inv-loop μ-loop → List ℕ
-area k = k .build-set .last .1 .1 .1 .1 .1 .1 .1 .1 .1 .1 .0
+area k = k .build-set .last .1 .1 .1 .1 .1 .1 .1 .1 .1 .1 .1 .0
 
 abbrev list : tie.After-build-set Inv-loop μ-loop → List ℕ
-list k = k .build-set .last .1 .1 .1 .1 .1 .1 .1 .1 .0
+list k = k .build-set .last .1 .1 .1 .1 .1 .1 .1 .1 .1 .0
 
 list-fits : (l : tie.At-loop Inv-loop μ-loop) → start l .args .n ≤ length (l .loop .scratch)
 list-fits l = omega (arith, start l .pre .1 .scratch-room, l .loop .inv .3)
@@ -61,7 +65,7 @@ count-small k =
 count-fits : (k : tie.After-build-set Inv-loop μ-loop) → k .build-set .result ≤ length (area k)
 count-fits k =
     let l = head (run k) in
-    omega (arith, count-small k, start l .pre .1 .set-room, l .loop .inv .2, k .build-set .kept .1 .1 .1 .1 .1 .1 .1 .1 .1 .1 .0)
+    omega (arith, count-small k, start l .pre .1 .set-room, l .loop .inv .2, k .build-set .kept .1 .1 .1 .1 .1 .1 .1 .1 .1 .1 .1 .0)
 
 -- the list of a walk came back to the first part of scratch
 back-length : (front l : List ℕ) (n : ℕ) → n ≤ length l → length front ≡ length (take n l) → length (front ++ drop n l) ≡ length l
@@ -71,82 +75,112 @@ scratch-back : (k : tie.After-build-set Inv-loop μ-loop)
     → length (list k ++ drop (start (head (run k)) .args .n) (head (run k) .loop .scratch)) ≡ length (start (head (run k)) .args .scratch .now)
 scratch-back k =
     let l = head (run k) in
-    back-length (list k) (l .loop .scratch) (start l .args .n) (list-fits l) (k .build-set .kept .1 .1 .1 .1 .1 .1 .1 .1 .0) ∙ l .loop .inv .3
+    back-length (list k) (l .loop .scratch) (start l .args .n) (list-fits l) (k .build-set .kept .1 .1 .1 .1 .1 .1 .1 .1 .1 .0) ∙ l .loop .inv .3
+
+marks-kept : (l : tie.At-loop Inv-loop μ-loop) → length (l .loop .marks) ≡ length (start l .args .marks .now)
+marks-kept l =
+    let room = start l .pre .1 in
+    ap length (l .loop .inv .1) ∙ length-replicate (length (start l .args .flags .now)) 0 ∙ room .modules ∙ sym (room .mark-bytes)
 
 -- ---- the needs
 
+clear-bytes-requires : tie.Need-clear-bytes-requires Inv-loop μ-loop
+clear-bytes-requires c κs = search needs
+
+slice-aggregate-store-places : tie.Need-slice-aggregate-store-places Inv-loop μ-loop
+slice-aggregate-store-places c = search needs
+
+store-places-requires : tie.Need-store-places-requires Inv-loop μ-loop
+store-places-requires c κs =
+    let s = c .before .before .before .before .before .before .before .before .before .before .before .before .before .before .before .before
+    .before .before .before .before .before .before .before .before .before in
+    let room = s .pre .1 in
+    places-free (s .pre .0 .turning .fits .passed) (s .pre .0 .fits) (omega (arith, room .modules, room .few, length-replicate {A = ℕ} 4096 0))
+    (λ m. omega (arith, zeros 4096 m))
+
 loop-holds : tie.Need-loop-holds Inv-loop μ-loop
 loop-holds c =
-    let s = c .before .before .before .before .before .before .before .before .before .before .before .before .before .before .before .before .before
-    .before .before .before in
-    (names-start, refl, refl, refl, s .pre .1 .clear)
+    let s = c .before .before .before .before .before .before .before .before .before .before .before .before .before .before .before .before
+    .before .before .before .before .before .before .before .before .before .before .before in
+    let room = s .pre .1 in
+    (names-start, c .before .before .before .before .before .clear-bytes .ensures ∙ ap (λ (k : ℕ). replicate k 0) (room .mark-bytes ∙ sym (room
+    .modules)), refl, refl, room .clear)
 
 run-end-requires : tie.Need-run-end-requires Inv-loop μ-loop
 run-end-requires c κs = c .loop-test .taken
 
+slice-aggregate-build-set : tie.Need-slice-aggregate-build-set Inv-loop μ-loop
+slice-aggregate-build-set c = search needs
+
 mul-build-set : tie.Need-mul-build-set Inv-loop μ-loop
-mul-build-set c = let e = c .run-end .ensures in omega (arith, e .some, e .within, start (head c) .good .1 .1 .0)
+mul-build-set c = let e = c .before .run-end .ensures in omega (arith, e .some, e .within, start (head (c .before)) .good .1 .1 .0)
 
 sub-build-set : tie.Need-sub-build-set Inv-loop μ-loop
-sub-build-set c = omega (arith, c .run-end .ensures .some)
+sub-build-set c = omega (arith, c .before .run-end .ensures .some)
 
 part-build-set-start : tie.Need-part-build-set-start Inv-loop μ-loop
-part-build-set-start c = omega (arith, c .run-end .ensures .some)
+part-build-set-start c = omega (arith, c .before .run-end .ensures .some)
 
 part-build-set-end : tie.Need-part-build-set-end Inv-loop μ-loop
-part-build-set-end c = c .run-end .ensures .within
+part-build-set-end c = c .before .run-end .ensures .within
 
 slice-relend-prefix-build-set : tie.Need-slice-relend-prefix-build-set Inv-loop μ-loop
-slice-relend-prefix-build-set c = list-fits (head (c .before .before))
+slice-relend-prefix-build-set c = list-fits (c .before .before .before .before .before)
 
-slice-aggregate-build-set : tie.Need-slice-aggregate-build-set Inv-loop μ-loop
-slice-aggregate-build-set c = sym (length-take-le _ _ (list-fits (head (c .before .before .before))))
+slice-aggregate-build-set-2 : tie.Need-slice-aggregate-build-set-2 Inv-loop μ-loop
+slice-aggregate-build-set-2 c = sym (length-take-le _ _ (list-fits (c .before .before .before .before .before .before)))
 
 build-set-requires : tie.Need-build-set-requires Inv-loop μ-loop
 build-set-requires c κs =
-    let k = c .before .before .before .before .before in
+    let k = c .before .before .before .before .before .before in
     let l = head k in
     let s = start l in
     let room = s .pre .1 in
     let e = k .run-end .ensures in
     let v = l .loop .inv in
     let first : length (take (s .args .n) (l .loop .scratch)) ≡ s .args .n = length-take-le (s .args .n) (l .loop .scratch) (list-fits l) in
-    set-ready (s .pre .0 .turning .fits .passed) (s .pre .0 .fits) (e .some) (e .within) (v .1 ∙ room .mark-bytes ∙ sym (room .modules))
+    set-ready (s .pre .0 .turning .fits .passed) (s .pre .0 .fits) (e .some) (e .within) (placed l .store-places .ensures)
+    (omega (arith, room .modules, room .few, placed l .store-places .kept .1 .1 .0, length-replicate {A = ℕ} 4096 0)) (v .1)
     (omega (arith, room .modules, first)) (v .4) (omega (arith, room .modules, room .set-room, v .2))
 
 mul-convert-set : tie.Need-mul-convert-set Inv-loop μ-loop
-mul-convert-set c =
-    let k = c .before .before .before .before .before .before .before .before .before .before .before .before .before .before in
-    omega (arith, k .before .loop-test .taken, start (head k) .good .1 .1 .0)
+mul-convert-set c = omega (arith, c .before .before .before .before .before .before .before .before .before .before .before .before .before .before
+    .before .before .loop-test .taken, start (c .before .before .before .before .before .before .before .before .before .before .before .before
+    .before .before .before .before .before) .good .1 .1 .0)
 
 shared-slice-read-convert-set : tie.Need-shared-slice-read-convert-set Inv-loop μ-loop
-shared-slice-read-convert-set c =
-    c .before .before .before .before .before .before .before .before .before .before .before .before .before .before .before .before .loop-test .taken
+shared-slice-read-convert-set c = c .before .before .before .before .before .before .before .before .before .before .before .before .before .before
+    .before .before .before .loop-test .taken
 
 slice-reshare-prefix-convert-set : tie.Need-slice-reshare-prefix-convert-set Inv-loop μ-loop
 slice-reshare-prefix-convert-set c = count-fits (c .before .before .before .before .before .before .before .before .before)
 
 slice-aggregate-convert-set : tie.Need-slice-aggregate-convert-set Inv-loop μ-loop
-slice-aggregate-convert-set c = sym (length-take-le _ _ (count-fits (c .before .before .before .before .before .before .before .before .before .before)))
+slice-aggregate-convert-set c = sym (length-take-le _ _ (count-fits (c .before .before .before .before .before .before .before .before .before
+    .before)))
 
-cast-t49 : tie.Need-cast-t49 Inv-loop μ-loop
-cast-t49 c =
-    let l = head (run (c .before .before .before .before .before .before .before .before .before .before)) in
+cast-t57 : tie.Need-cast-t57 Inv-loop μ-loop
+cast-t57 c =
+    let l = c .before .before .before .before .before .before .before .before .before .before .before .before .before .before .before .before
+    .before .before .before in
     omega (arith, number-now (start l .pre .0) (l .loop .inv .0))
 
-add-t50 : tie.Need-add-t50 Inv-loop μ-loop
-add-t50 c =
-    let l = head (run (c .before .before .before .before .before .before .before .before .before .before .before)) in
+add-t58 : tie.Need-add-t58 Inv-loop μ-loop
+add-t58 c =
+    let l = c .before .before .before .before .before .before .before .before .before .before .before .before .before .before .before .before
+    .before .before .before .before in
     omega (arith, number-now (start l .pre .0) (l .loop .inv .0))
 
 add-convert-set : tie.Need-add-convert-set Inv-loop μ-loop
 add-convert-set c =
-    let l = head (run (c .before .before .before .before .before .before .before .before .before .before .before)) in
+    let l = c .before .before .before .before .before .before .before .before .before .before .before .before .before .before .before .before
+    .before .before .before .before in
     omega (arith, place-now (start l .pre .0) (l .loop .inv .0), start l .good .1 .1 .1 .1 .1 .1 .1 .1 .1 .1 .1 .1 .1 .1 .1 .1 .1 .1 .1 .1 .1 .0)
 
 convert-set-requires : tie.Need-convert-set-requires Inv-loop μ-loop
 convert-set-requires c κs =
-    let k = c .before .before .before .before .before .before .before .before .before .before .before .before .before .before .before .before .before in
+    let k = c .before .before .before .before .before .before .before .before .before .before .before .before .before .before .before .before
+    .before in
     let l = head (run k) in
     let s = start l in
     let room = s .pre .1 in
@@ -165,9 +199,9 @@ add-made c =
     )
 
 loop-less : tie.Need-loop-less Inv-loop μ-loop
-loop-less c =
-    let e = run (set (c .before .before .before .before .before .before .before .before .before .before .before .before)) .run-end .ensures in
-    omega (arith, e .some, e .within)
+loop-less c = let e = run (c .before .before .before .before .before .before .before .before .before .before .before .before .before .before
+    .before .before .before .before .before .before .before .before .before .before .before .before .before .before .before .before) .run-end
+    .ensures in omega (arith, e .some, e .within)
 
 loop-again : tie.Need-loop-again Inv-loop μ-loop
 loop-again c =
@@ -178,14 +212,14 @@ loop-again c =
     let same = k .convert-set .kept .1 .1 .1 .1 .1 .1 .1 .1 .1 .1 .1 .1 .1 in (
       names-next (start l .pre .0) (v .0) (run (set k) .run-end .ensures) (b .ensures .0) (k .convert-set .ensures .0)
           (record { chunk-of = same .0; group-of = same .1 .0; name-of = same .1 .1 .0; size-of = same .1 .1 .1 .0; bits-of = same .1 .1 .1 .1 .0 }),
-      b .kept .1 .1 .1 .1 .1 .1 .1 .0 ∙ v .1,
-      b .kept .1 .1 .1 .1 .1 .1 .1 .1 .1 .1 .0 ∙ v .2,
+      b .ensures .1 .0,
+      b .kept .1 .1 .1 .1 .1 .1 .1 .1 .1 .1 .1 .0 ∙ v .2,
       k .convert-set .ensures .1 ∙ scratch-back (set k),
-      b .ensures .1,
+      b .ensures .1 .1,
     )
 
 same-length : tie.Need-same-length Inv-loop μ-loop
-same-length c = c .before .loop .inv .1
+same-length c = marks-kept (c .before)
 
 same-length-2 : tie.Need-same-length-2 Inv-loop μ-loop
 same-length-2 c = let l = c .before in unfollowed-bytes (l .loop .inv .4) ∙ sym (unfollowed-bytes (start l .pre .1 .clear))
@@ -212,7 +246,7 @@ same-length-9 : tie.Need-same-length-9 Inv-loop μ-loop
 same-length-9 c = c .before .loop .inv .0 .lengths .bits-of
 
 returns : tie.Need-returns Inv-loop μ-loop
-returns c = let v = c .before .loop .inv in (names-turned (v .0) (c .loop-test .left), (v .1, v .2, v .3, v .4))
+returns c = let v = c .before .loop .inv in (names-turned (v .0) (c .loop-test .left), (marks-kept (c .before), v .2, v .3, v .4))
 
 pub convert-names-spec : {M : Type 1} → statement M
 convert-names-spec =
@@ -220,21 +254,25 @@ convert-names-spec =
     (tie.spec
     Inv-loop
     μ-loop
+    clear-bytes-requires
+    slice-aggregate-store-places
+    store-places-requires
     loop-holds
     run-end-requires
+    slice-aggregate-build-set
     mul-build-set
     sub-build-set
     part-build-set-start
     part-build-set-end
     slice-relend-prefix-build-set
-    slice-aggregate-build-set
+    slice-aggregate-build-set-2
     build-set-requires
     mul-convert-set
     shared-slice-read-convert-set
     slice-reshare-prefix-convert-set
     slice-aggregate-convert-set
-    cast-t49
-    add-t50
+    cast-t57
+    add-t58
     add-convert-set
     convert-set-requires
     add-made

@@ -123,6 +123,7 @@ returns c =
     let h = c .before .before .before .before .before .loop-test .left in (
       record {
         marked = walk-ends (a .flags .now) (a .first .now) (a .dependency .now) (a .next .now) _ _ _ _ _ p h;
+        state = p .state;
         same-length = p .state .mark-bytes ∙ sym (s .pre .state .mark-bytes);
       },
       c .before .before .forget-all .ensures,

@@ -1,0 +1,78 @@
+// The marked modules in execution order. Of the places, 64 are a block, and only blocks with a marked module are looked through, so that a small set
+// costs little among many modules.
+ghost use mathlib.Core.Bool.{true};
+ghost use mathlib.Core.List.{map};
+ghost use mathlib.Core.Path.{_≡_};
+ghost use lib.ListN.{length};
+ghost use Rattle.records.specs.Marks.{stored};
+ghost use Rattle.sets.specs.Area.{Holds};
+ghost use Rattle.sets.specs.Gathered.{blockOf, markedIn, PlacesFree, PlacesAre, BlocksReady, MarkedReady, FoundReady};
+
+// Writes each module's place in execution order, if they are asked for.
+pub fn store_places(asked: bool, order: &[u32], place: &mut [u32])
+    requires { ⌜ PlacesFree (now order) (now place) ⌝ }
+    ensures { λ _. ⌜ (asked ≡ true → PlacesAre (now (order .entry)) (now (place .exit))) ⌝ }
+{
+    if !asked {
+        return;
+    }
+    let mut i = 0;
+    while i < order.len() {
+        place[order[i] as usize] = i as u32;
+        i = i + 1;
+    }
+}
+
+// Marks the blocks in which the modules of the list have their places.
+fn mark_blocks(list: &[u32], place: &[u32], blocks: &mut [u8])
+    requires { ⌜ BlocksReady (now list) (now place) (now blocks) ⌝ }
+    ensures { λ _. ⌜ now (blocks .exit) ≡ stored 1 (map (blockOf (now (place .entry))) (now (list .entry))) (now (blocks .entry)) ⌝ }
+{
+    let mut i = 0;
+    while i < list.len() {
+        let at = place[list[i] as usize];
+        blocks[(at / 64) as usize] = 1;
+        i = i + 1;
+    }
+}
+
+// Writes the modules that are marked, in execution order. Answers how many there are.
+fn gather_marked(order: &[u32], marks: &[u8], blocks: &[u8], set: &mut [u32]) -> usize
+    requires { ⌜ MarkedReady (now order) (now marks) (now blocks) (now set) ⌝ }
+    ensures { λ r. ⌜ Holds (markedIn (now (marks .entry)) (now (order .entry))) r (now (set .exit)) ⌝ }
+{
+    let mut count = 0;
+    let mut i = 0;
+    while i < order.len() {
+        if blocks[i / 64] == 0 {
+            i = i / 64 * 64 + 64;
+            continue;
+        }
+        let m = order[i];
+        if marks[m as usize] == 1 {
+            set[count] = m;
+            count = count + 1;
+        }
+        i = i + 1;
+    }
+    count
+}
+
+// The same, of modules that are all on a list.
+pub fn gather_set(
+    order: &[u32],
+    place: &[u32],
+    list: &[u32],
+    marks: &[u8],
+    set: &mut [u32],
+) -> usize
+    requires { ⌜ FoundReady (now order) (now place) (now list) (now marks) (now set) ⌝ }
+    ensures { λ r. ⌜ Holds (markedIn (now (marks .entry)) (now (order .entry))) r (now (set .exit)) ⌝ }
+{
+    if list.len() == 0 {
+        return 0;
+    }
+    let mut blocks = [0u8; 64];
+    mark_blocks(list, place, &mut blocks);
+    gather_marked(order, marks, &blocks, set)
+}
