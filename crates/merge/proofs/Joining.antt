@@ -116,6 +116,12 @@ module _ (s t : Subgroup) (numbers sizes bits : List ℕ) (g : Joinable s t numb
     pub row-of-other : (i : ℕ) → i < length numbers → (i ≡ s .number → ⊥) → (i ≡ t .number → ⊥) → rowOf b i ≡ rowOf bits i
     row-of-other = of-tables (λ n z b. (i : ℕ) → i < length numbers → (i ≡ s .number → ⊥) → (i ≡ t .number → ⊥) → rowOf b i ≡ rowOf bits i) (row-away s t numbers sizes bits g)
 
+    pub size-of-other : (i : ℕ) → (i ≡ s .number → ⊥) → (i ≡ t .number → ⊥) → getD z i 0 ≡ getD sizes i 0
+    size-of-other = of-tables (λ n z b. (i : ℕ) → (i ≡ s .number → ⊥) → (i ≡ t .number → ⊥) → getD z i 0 ≡ getD sizes i 0) (size-other s t numbers sizes bits g)
+
+    pub joined-sizes : length z ≡ length sizes
+    joined-sizes = of-tables (λ n z b. length z ≡ length sizes) (same-sizes s t numbers sizes bits g)
+
     pub joined-count : length n ≡ length numbers
     joined-count = of-tables (λ n z b. length n ≡ length numbers) (same-count s t numbers sizes bits g)
 

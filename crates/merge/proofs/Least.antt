@@ -1,15 +1,16 @@
 -- The first element of a list in an order: one element more at the end, what holds of each element holds of it, there is none only of no element,
--- and the first of the images is the image of the first.
+-- the first of the images is the image of the first, and that of two lists end to end is the earlier of theirs.
 use Prim.Native.Nat.{ℕ}
 use mathlib.Core.Bool.{Bool, true, false, cond}
 use mathlib.Core.List.{List, [], _∷_, _++_, map, foldl}
-use mathlib.Core.Option.{none, some, Option·map}
+use mathlib.Core.Option.{Option, none, some, Option·map}
 use mathlib.Core.Path.{_≡_, refl, ap, _∙_, subst}
 use native.Mathlib.Omega.{arith}
 use Rattle.lists.specs.Keep.{keep, keepHead}
 use Rattle.lists.specs.Least.{earlier, least}
 use Rattle.lists.proofs.Fold.{foldl-append}
 use Rattle.lists.proofs.Keep.{Each, more, keep-append}
+use Rattle.lists.proofs.Sorted.{WeakOrder}
 use Rattle.merge.specs.Search.{looked}
 
 module _ {A : Type 0} (before : A → A → Bool) where
@@ -66,3 +67,31 @@ module _ {A B : Type 0} (before : A → A → Bool) (after : B → B → Bool) (
   unfolding least
   least-map [] = refl
   least-map (x ∷ l) = ap some (fold-map x l)
+
+-- ---- two lists end to end
+
+-- the earlier of what two searches have found
+abbrev pub sooner : {A : Type 0} → (A → A → Bool) → Option A → Option A → Option A
+sooner before none o = o
+sooner before (some x) none = some x
+sooner before (some x) (some y) = some (earlier before x y)
+
+module _ {A : Type 0} (before : A → A → Bool) (order : WeakOrder before) where
+  earlier-assoc : (x y z : A) → earlier before (earlier before x y) z ≡ earlier before x (earlier before y z)
+  earlier-assoc x y z = go (before y x) (before z y) refl refl
+    where
+      go : (p q : Bool) → before y x ≡ p → before z y ≡ q → earlier before (earlier before x y) z ≡ earlier before x (earlier before y z)
+      go true true e f = rw (e, f, order .transitive z y x f e)
+      go true false e f = rw (e, f, e)
+      go false true e f = rw (e, f)
+      go false false e f = rw (e, f, order .negation z y x f e, e)
+
+  fold-from : (x y : A) (m : List A) → foldl (earlier before) (earlier before x y) m ≡ earlier before x (foldl (earlier before) y m)
+  fold-from x y [] = refl
+  fold-from x y (z ∷ m) = ap (λ w. foldl (earlier before) w m) (earlier-assoc x y z) ∙ fold-from x (earlier before y z) m
+
+  pub least-append : (l m : List A) → least before (l ++ m) ≡ sooner before (least before l) (least before m)
+  unfolding least
+  least-append [] m = refl
+  least-append (x ∷ l) [] = ap (λ t. least before (x ∷ t)) (mathlib.Core.List.append-nil l)
+  least-append (x ∷ l) (y ∷ m) = ap some (foldl-append (earlier before) x l (y ∷ m) ∙ fold-from (foldl (earlier before) x l) y m)

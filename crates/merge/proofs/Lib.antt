@@ -13,6 +13,7 @@ pub mod Joining
 pub mod Next
 pub mod Removing
 pub mod Listing
+pub mod Blocks
 pub mod Finding
 pub mod Ending
 pub mod Turning

@@ -1,5 +1,5 @@
 -- One turn of the engine, and the turns one after the other: from the state after a turn the rest of the merge is the same.
-use Prim.Native.Nat.{ℕ, zero, suc, _*_, _-_, _^_, _<_, _≤_}
+use Prim.Native.Nat.{ℕ, zero, suc, _*_, _-_, _/_, _^_, _<_, _≤_}
 use mathlib.Core.Bool.{true, false, not, cond, true≢false, false≢true}
 use mathlib.Core.List.{List, _++_, map, List·Memᴰ}
 use mathlib.Core.Option.{none, some}
@@ -17,13 +17,15 @@ use Rattle.merge.specs.Subgroup.{Subgroup, seeks, smaller, nearer}
 use Rattle.merge.specs.Merge.{Merging, Join, stop, joins, others, nextJoin, follow, mergeSteps}
 use Rattle.merge.specs.Tables.{subgroupAt}
 use Rattle.merge.specs.Search.{seeking, comesFirst, seekerAt, targetAt, foundOf, Readable}
+use Rattle.merge.specs.Seekers.{firstSeeker, Exact, Heads, Refreshed}
 use Rattle.merge.specs.Engine.{listed, thereIn, stateOf, Sound, InRow, Standing, Joinable, JoinedTables, makesJoin, Turn}
 use Rattle.merge.specs.declared.search.Best.{Best}
 use Rattle.merge.proofs.There.{in-row, small-size}
 use Rattle.merge.proofs.Next.{no-seeker, no-target, next-join, seeker-is, target-is, standing, can-join}
-use Rattle.merge.proofs.Joining.{joined-state, joined-sound}
+use Rattle.merge.proofs.Joining.{joined-state, joined-sound, joined-sizes}
 use Rattle.merge.proofs.Removing.{butOne}
 use Rattle.merge.proofs.Listing.{listed-distinct, listed-in, readable, listed-joined}
+use Rattle.merge.proofs.Blocks.{first-of-heads, first-listed, heads-after}
 use Rattle.merge.proofs.Finding.{seeker-found, no-seeker-found, target-found, no-target-found}
 
 found-none : (b : Best) → b .found ≡ false → foundOf b ≡ none
@@ -34,26 +36,36 @@ found-one : (b : Best) → b .found ≡ true → foundOf b ≡ some (b .candidat
 unfolding foundOf
 found-one b e = ap (λ f. cond f (some (b .candidate)) none) e
 
+-- sizes that are looked through are doubles, and at most 4,096
+pub sizes-fit-all : (numbers sizes bits : List ℕ) → Sound numbers sizes bits → Exact sizes × (length sizes ≤ 4096)
+sizes-fit-all numbers sizes bits sound =
+    (λ i h. small-size (sound .tables) i (omega (arith, sound .tables .sizes-fit)), omega (arith, sound .tables .sizes-fit, sound .tables .count))
+
 -- ---- one turn
 
-module _ (threshold : Float) (numbers sizes bits there : List ℕ) (sound : Sound numbers sizes bits) (is : there ≡ listed numbers) where
-  stands : nextJoin threshold (thereIn numbers sizes bits) ≡ stop → (l : List ℕ) → Turn threshold false numbers sizes bits there numbers sizes bits l
+module _ (threshold : Float) (numbers sizes bits there heads : List ℕ) (sound : Sound numbers sizes bits) (is : there ≡ listed numbers) (stand : Heads threshold sizes heads) where
+  stands : nextJoin threshold (thereIn numbers sizes bits) ≡ stop → (l : List ℕ) → Turn threshold false numbers sizes bits there numbers sizes bits l heads
   stands e l = record {
     answer = sym (ap makesJoin e);
     state = sym (ap (λ j. follow j (stateOf numbers sizes bits) (λ m. m)) e);
     sound = sound;
     list = λ m. absurd (false≢true m);
+    heads = λ m. absurd (false≢true m);
   }
 
-  pub reads-all : Readable there sizes
-  reads-all = readable (sound .tables) there (λ i m. subst (List·Memᴰ i) is m)
+  sizes-exact : Exact sizes
+  sizes-exact = sizes-fit-all numbers sizes bits sound .0
+
+  pub reads-heads : Readable heads sizes
+  reads-heads = record { inside = λ j h. stand .stand j h .inside; exact = sizes-exact }
 
   -- what the search for a seeker found
-  module _ (b : Best) (is-b : foundOf b ≡ least comesFirst (keep (seeking threshold) (map (seekerAt sizes) there))) where
+  module _ (b : Best) (is-b : foundOf b ≡ least comesFirst (keep (seeking threshold) (map (seekerAt sizes) heads))) where
     among : foundOf b ≡ least comesFirst (keep (seeking threshold) (map (seekerAt sizes) (listed numbers)))
-    among = is-b ∙ ap (λ l. least comesFirst (keep (seeking threshold) (map (seekerAt sizes) l))) is
+    unfolding firstSeeker
+    among = is-b ∙ first-of-heads threshold sizes sizes-exact heads stand ∙ first-listed threshold numbers sizes bits sound
 
-    pub turn-without-seeker : b .found ≡ false → Turn threshold false numbers sizes bits there numbers sizes bits there
+    pub turn-without-seeker : b .found ≡ false → Turn threshold false numbers sizes bits there numbers sizes bits there heads
     turn-without-seeker e =
         stands (no-seeker threshold (thereIn numbers sizes bits) (no-seeker-found sizes bits numbers threshold (sym among ∙ found-none b e))) there
 
@@ -98,7 +110,7 @@ module _ (threshold : Float) (numbers sizes bits there : List ℕ) (sound : Soun
           among-left : foundOf d ≡ least comesFirst (map (targetAt sizes bits (s .bits)) (butOne (s .number) (listed numbers)))
           among-left = is-d ∙ ap (λ l. least comesFirst (map (targetAt sizes bits (s .bits)) l)) left-is
 
-          pub turn-without-target : d .found ≡ false → (l : List ℕ) → Turn threshold false numbers sizes bits there numbers sizes bits l
+          pub turn-without-target : d .found ≡ false → (l : List ℕ) → Turn threshold false numbers sizes bits there numbers sizes bits l heads
           turn-without-target q l =
               stands (no-target threshold (thereIn numbers sizes bits) s s-found
               (no-target-found sizes bits numbers threshold s s-found (sym among-left ∙ found-none d q))) l
@@ -123,15 +135,40 @@ module _ (threshold : Float) (numbers sizes bits there : List ℕ) (sound : Soun
               pub join-fits : Joinable s t numbers sizes bits
               join-fits = can-join numbers sizes bits threshold s t (sound .tables) s-found t-found
 
+              number-of-seeker : s .number ≡ from
+              unfolding subgroupAt
+              number-of-seeker = ap (λ u. u .number) is-s
+
+              number-of-target : t .number ≡ to
+              unfolding subgroupAt
+              number-of-target = ap (λ u. u .number) is-t
+
+              -- what it asks to look through the blocks of the two again
+              pub refresh-fits : (n z w : List ℕ) → JoinedTables s t numbers sizes bits n z w
+                  → Exact z × (length z ≤ 4096) × (from < length z) × (to < length z) × (length z ≤ 16 * length heads)
+              refresh-fits n z w after =
+                  let fits = sizes-fit-all n z w (joined-sound s t numbers sizes bits join-fits n z w after sound) in
+                  let long = joined-sizes s t numbers sizes bits join-fits n z w after in (
+                    fits .0,
+                    fits .1,
+                    omega (arith, long, seeker-row .1 .has-size),
+                    omega (arith, long, target-row .0 .has-size),
+                    omega (arith, long, stand .all),
+                  )
+
               pub turn-with-join : (n z w l : List ℕ) → JoinedTables s t numbers sizes bits n z w → take (length there - 1) l ≡ left
-                  → Turn threshold true numbers sizes bits there n z w l
-              turn-with-join n z w l after short =
+                  → (heads₁ heads₂ : List ℕ) → length heads₁ ≡ length heads → length heads₂ ≡ length heads₁ → Refreshed threshold z (from / 16) heads heads₁ → Refreshed threshold z (to / 16) heads₁ heads₂
+                  → Turn threshold true numbers sizes bits there n z w l heads₂
+              turn-with-join n z w l after short heads₁ heads₂ long₁ long₂ at-from at-to =
                   let next = next-join threshold (thereIn numbers sizes bits) s s-found t t-found in
                   record {
                     answer = sym (ap makesJoin next);
                     state = joined-state s t numbers sizes bits join-fits n z w after ∙ sym (ap (λ j. follow j (stateOf numbers sizes bits) (λ m. m)) next);
                     sound = joined-sound s t numbers sizes bits join-fits n z w after sound;
                     list = λ m. short ∙ left-is ∙ sym (listed-joined s t numbers sizes bits join-fits n z w after);
+                    heads = λ m. heads-after threshold s t numbers sizes bits join-fits n z w after heads heads₁ heads₂ stand long₁ long₂
+                        (subst (λ k. Refreshed threshold z (k / 16) heads heads₁) (sym (number-of-seeker)) at-from)
+                        (subst (λ k. Refreshed threshold z (k / 16) heads₁ heads₂) (sym (number-of-target)) at-to);
                   }
 
 -- ---- turns one after the other
@@ -144,15 +181,15 @@ none-made : (j : Join) (m : Merging) (rest : Merging → Merging) → false ≡ 
 none-made stop m rest e = refl
 none-made (joins s t) m rest e = absurd (false≢true e)
 
-module _ (threshold : Float) (n z b l n′ z′ b′ l′ : List ℕ) where
+module _ (threshold : Float) (n z b l n′ z′ b′ l′ heads : List ℕ) where
   -- after a join there is one turn less to go
-  pub turn-more : Turn threshold true n z b l n′ z′ b′ l′ → (left : ℕ) → mergeSteps left threshold (stateOf n′ z′ b′) ≡ mergeSteps (suc left) threshold (stateOf n z b)
+  pub turn-more : Turn threshold true n z b l n′ z′ b′ l′ heads → (left : ℕ) → mergeSteps left threshold (stateOf n′ z′ b′) ≡ mergeSteps (suc left) threshold (stateOf n z b)
   unfolding mergeSteps
   turn-more turn left =
       ap (mergeSteps left threshold) (turn .state) ∙ sym (made (nextJoin threshold (thereIn n z b)) (stateOf n z b) (mergeSteps left threshold) (turn .answer))
 
   -- without one the merge is done, however many turns are left
-  pub turn-last : Turn threshold false n z b l n′ z′ b′ l′ → (left : ℕ) → stateOf n′ z′ b′ ≡ mergeSteps left threshold (stateOf n z b)
+  pub turn-last : Turn threshold false n z b l n′ z′ b′ l′ heads → (left : ℕ) → stateOf n′ z′ b′ ≡ mergeSteps left threshold (stateOf n z b)
   unfolding mergeSteps
   turn-last turn zero = turn .state ∙ none-made (nextJoin threshold (thereIn n z b)) (stateOf n z b) (λ m. m) (turn .answer)
   turn-last turn (suc left) =

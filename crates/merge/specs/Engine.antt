@@ -14,6 +14,7 @@ use Rattle.merge.specs.Subgroup.{Subgroup}
 use Rattle.merge.specs.Merge.{Merging, Join, stop, joins, nextJoin, follow, united, mergeSteps}
 use Rattle.merge.specs.Tables.{subgroupAt, finalSizes, finalBits, Mergeable}
 use Rattle.merge.specs.Search.{vanished}
+use Rattle.merge.specs.Seekers.{Heads}
 
 abbrev pub isThere : List ℕ → ℕ → Bool
 isThere numbers i = eqb (getD numbers i 0) i
@@ -84,12 +85,13 @@ abbrev pub makesJoin : Join → Bool
 makesJoin stop = false
 makesJoin (joins s t) = true
 
--- the next join was made, if there is one; then the list of those still there has one number less
-pub record Turn (threshold : Float) (made : Bool) (numbers sizes bits there numbers′ sizes′ bits′ there′ : List ℕ) : Type 0 where
+-- the next join was made, if there is one; then the list of those still there has one number less, and the heads stand for their blocks
+pub record Turn (threshold : Float) (made : Bool) (numbers sizes bits there numbers′ sizes′ bits′ there′ heads′ : List ℕ) : Type 0 where
   pub answer : made ≡ makesJoin (nextJoin threshold (thereIn numbers sizes bits))
   pub state : stateOf numbers′ sizes′ bits′ ≡ follow (nextJoin threshold (thereIn numbers sizes bits)) (stateOf numbers sizes bits) (λ m. m)
   pub sound : Sound numbers′ sizes′ bits′
   pub list : made ≡ true → take (length there - 1) there′ ≡ listed numbers′
+  pub heads : made ≡ true → Heads threshold sizes′ heads′
 
 -- all joins were made, at most one for each subgroup
 pub record Turns (threshold : Float) (numbers sizes bits numbers′ sizes′ bits′ : List ℕ) : Type 0 where

@@ -3,5 +3,6 @@ pub mod Subgroup
 pub mod Merge
 pub mod Tables
 pub mod Search
+pub mod Seekers
 pub mod Engine
 pub mod Call

@@ -1,4 +1,7 @@
-// The plain engine: joins one after the other, each found by looking afresh through all subgroups that are still there.
+// The engine: joins one after the other, each found by looking at the heads of all blocks for the seeker, and through all subgroups that are still
+// there for its target.
+use crate::heads::fill_heads;
+use crate::heads::refresh;
 use crate::list::remove;
 use crate::search::find_seeker;
 use crate::search::find_target;
@@ -7,10 +10,12 @@ use crate::tables::rename;
 use crate::tables::store;
 use crate::tables::subgroup_at;
 ghost use mathlib.Core.Path.{_≡_};
+ghost use Prim.Native.Nat.{_+_, _*_, _≤_, _<_};
 ghost use lib.ListN.{length};
 ghost use Rattle.lists.specs.Range.{range};
 ghost use Rattle.merge.specs.Tables.{Mergeable, mergeOf};
 ghost use Rattle.merge.specs.Search.{held};
+ghost use Rattle.merge.specs.Seekers.{Heads};
 ghost use Rattle.merge.specs.Engine.{listed, Sound, Joinable, JoinedTables, Turn, Turns, Final};
 
 // The seeker joins the target: whatever had its number has the target's, and its row is left as zeros.
@@ -37,13 +42,14 @@ fn join_next(
     sizes: &mut [u64],
     bits: &mut [u64],
     there: &mut [u32],
+    heads: &mut [u32],
     threshold: f64,
 ) -> bool
-    requires { ⌜ Sound (now numbers) (now sizes) (now bits) × (now there ≡ listed (now numbers)) ⌝ }
+    requires { ⌜ Sound (now numbers) (now sizes) (now bits) × (now there ≡ listed (now numbers)) × Heads threshold (now sizes) (now heads) ⌝ }
     ensures { λ r. ⌜ Turn threshold r (now (numbers .entry)) (now (sizes .entry)) (now (bits .entry)) (now (there .entry))
-        (now (numbers .exit)) (now (sizes .exit)) (now (bits .exit)) (now (there .exit)) ⌝ }
+        (now (numbers .exit)) (now (sizes .exit)) (now (bits .exit)) (now (there .exit)) (now (heads .exit)) ⌝ }
 {
-    let seeker = find_seeker(there, sizes, threshold);
+    let seeker = find_seeker(heads, sizes, threshold);
     if !seeker.found {
         return false;
     }
@@ -55,8 +61,11 @@ fn join_next(
     if !target.found {
         return false;
     }
-    let joined = subgroup_at(sizes, bits, target.candidate.number);
+    let to = target.candidate.number;
+    let joined = subgroup_at(sizes, bits, to);
     join(numbers, sizes, bits, joining, joined);
+    refresh(heads, sizes, threshold, from);
+    refresh(heads, sizes, threshold, to);
     true
 }
 
@@ -67,15 +76,25 @@ fn join_all(
     sizes: &mut [u64],
     bits: &mut [u64],
     there: &mut [u32],
+    heads: &mut [u32],
     threshold: f64,
 )
-    requires { ⌜ Sound (now numbers) (now sizes) (now bits) × (now numbers ≡ range 0 (length (now there))) ⌝ }
+    requires { ⌜ Sound (now numbers) (now sizes) (now bits) × (now numbers ≡ range 0 (length (now there)))
+        × (length (now sizes) ≤ 16 * length (now heads)) × (16 * length (now heads) < length (now sizes) + 16) ⌝ }
     ensures { λ _. ⌜ Turns threshold (now (numbers .entry)) (now (sizes .entry)) (now (bits .entry)) (now (numbers .exit)) (now (sizes .exit)) (now (bits .exit)) ⌝ }
 {
     lists::fill_range(there);
+    fill_heads(heads, sizes, threshold);
     let mut left = there.len();
     while 0 < left {
-        if !join_next(numbers, sizes, bits, &mut there[..left], threshold) {
+        if !join_next(
+            numbers,
+            sizes,
+            bits,
+            &mut there[..left],
+            heads,
+            threshold,
+        ) {
             return;
         }
         left = left - 1;
@@ -94,6 +113,15 @@ pub fn merge_in_place(numbers: &mut [u32], sizes: &mut [u64], bits: &mut [u64], 
     }
     if 0.0 < threshold {
         let mut there = [0u32; 4096];
-        join_all(numbers, sizes, bits, &mut there[..count], threshold);
+        let mut heads = [0u32; 256];
+        let blocks = (count + 15) / 16;
+        join_all(
+            numbers,
+            sizes,
+            bits,
+            &mut there[..count],
+            &mut heads[..blocks],
+            threshold,
+        );
     }
 }

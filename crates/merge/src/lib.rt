@@ -1,7 +1,8 @@
-// The merge of small subgroups of an entries-aware set, by the plain engine: for each join all subgroups still there are looked through afresh.
+// The merge of small subgroups of an entries-aware set, join by join.
 pub mod candidate;
 pub mod conditions;
 pub mod engine;
+pub mod heads;
 pub mod list;
 pub mod search;
 pub mod subgroup;

@@ -1,4 +1,4 @@
-// The search for the next join: the list of those still there is looked through afresh, with the best so far in a value.
+// The search for the next join: a list of numbers is looked through afresh, with the best so far in a value.
 use crate::candidate::Candidate;
 use crate::tables::size_at;
 use bitset::entries::BitSet;
@@ -59,8 +59,8 @@ impl Best {
         }
     }
 
-    // Whether the first words alone tell another set from the wanted one by more entries than the best so far has.
-    pub fn is_nearer(self, other: BitSet, wanted: BitSet) -> bool
+    // Whether the first words alone rule another set out: they tell it from the wanted one by more entries than the best so far has.
+    pub fn rules_out(self, other: BitSet, wanted: BitSet) -> bool
         ensures { λ r. ⌜ r ≡ nearerThan self (firstOnes wanted other) ⌝ }
     {
         if !self.found {
@@ -78,7 +78,7 @@ impl Best {
         ensures { λ r. ⌜ foundOf r ≡ looked comesFirst true (foundOf self) (targetAt (now (sizes .entry)) (now (bits .entry)) wanted i) ⌝ }
     {
         let other = row(bits, i);
-        if self.is_nearer(other, wanted) {
+        if self.rules_out(other, wanted) {
             return self;
         }
         let x = Candidate {

@@ -1,5 +1,5 @@
--- The invariant: from the present state the turns left give what all turns give from the start, and the list has as many numbers as turns are left.
--- The measure is the turns left.
+-- The invariant: from the present state the turns left give what all turns give from the start, the list has as many numbers as turns are left, and the
+-- heads stand for their blocks. The measure is the turns left.
 use Prim.Native.Nat.{suc, _-_, _≤_}
 use mathlib.Core.Path.{_≡_, refl, sym, ap, _∙_, subst}
 use native.Mathlib.Omega.{arith}
@@ -8,36 +8,54 @@ use lib.ListN.{length, take}
 use lib.Seq.{take-length, length-take-le, length-front}
 use Rattle.lists.proofs.Range.{length-range}
 use Rattle.merge.specs.Merge.{mergeSteps}
+use Rattle.merge.specs.Seekers.{Heads}
 use Rattle.merge.specs.Engine.{listed, stateOf, Sound, Turn}
 use Rattle.merge.proofs.Listing.{listed-all}
-use Rattle.merge.proofs.Turning.{turn-more, turn-last, list-less}
+use Rattle.merge.proofs.Turning.{sizes-fit-all, turn-more, turn-last, list-less}
 use Rattle.merge.proofs.engine.join_all.Statement.{statement}
 use Rattle.merge.proofs.engine.join_all.Tie as tie
 
 abbrev Inv-loop : tie.InvT-loop
-Inv-loop numbers₀ sizes₀ bits₀ there₀ threshold left₀ numbers sizes bits there left =
+Inv-loop numbers₀ sizes₀ bits₀ there₀ heads₀ threshold left₀ numbers sizes bits there heads left =
     Sound numbers sizes bits
     × (mergeSteps left threshold (stateOf numbers sizes bits) ≡ mergeSteps (length numbers₀) threshold (stateOf numbers₀ sizes₀ bits₀))
     × (left ≤ length there)
     × (take left there ≡ listed numbers)
+    × Heads threshold sizes heads
     × (length numbers ≡ length numbers₀)
     × (length sizes ≡ length sizes₀)
     × (length bits ≡ length bits₀)
     × (length there ≡ length there₀)
+    × (length heads ≡ length heads₀)
 
 abbrev μ-loop : tie.MeasureT-loop
-μ-loop numbers₀ sizes₀ bits₀ there₀ threshold left₀ numbers sizes bits there left = left
+μ-loop numbers₀ sizes₀ bits₀ there₀ heads₀ threshold left₀ numbers sizes bits there heads left = left
 
 fill-range-requires : tie.Need-fill-range-requires Inv-loop μ-loop
-fill-range-requires c κs = let long = ap length (c .before .before .before .before .before .pre .1) ∙ length-range 0 (length (c .before .before .before .before .before .args .there .now)) in omega (arith, c .before .before .before .before .before .pre .0 .tables .count)
+fill-range-requires c κs =
+    let s = c .before .before .before .before .before .before in
+    let long = ap length (s .pre .1) ∙ length-range 0 (length (s .args .there .now)) in
+    omega (arith, s .pre .0 .tables .count)
+
+fill-heads-requires : tie.Need-fill-heads-requires Inv-loop μ-loop
+fill-heads-requires c κs =
+    let s = c .before .before .before .before .before .before .before .before .before .before .before in
+    let fits = sizes-fit-all (s .args .numbers .now) (s .args .sizes .now) (s .args .bits .now) (s .pre .0) in
+    (fits .0, fits .1, s .pre .2, s .pre .3)
 
 loop-holds : tie.Need-loop-holds Inv-loop μ-loop
 loop-holds c =
-    let long = ap length (c .before .before .before .before .before .before .before .before .pre .1) ∙ length-range 0 (length (c .before .before .before .before .before .before .before .before .args .there .now)) in (
-      c .before .before .before .before .before .before .before .before .pre .0,
-      ap (λ k. mergeSteps k (c .before .before .before .before .before .before .before .before .args .threshold) (stateOf (c .before .before .before .before .before .before .before .before .args .numbers .now) (c .before .before .before .before .before .before .before .before .args .sizes .now) (c .before .before .before .before .before .before .before .before .args .bits .now))) (c .before .before .fill-range .kept .0 ∙ sym long),
+    let h = c .before .before .fill-heads in
+    let f = c .before .before .before .before .before .before .before .fill-range in
+    let s = c .before .before .before .before .before .before .before .before .before .before .before .before .before .before in
+    let a = s .args in
+    let long = ap length (s .pre .1) ∙ length-range 0 (length (a .there .now)) in (
+      s .pre .0,
+      ap (λ k. mergeSteps k (a .threshold) (stateOf (a .numbers .now) (a .sizes .now) (a .bits .now))) (f .kept .0 ∙ sym long),
       omega arith,
-      take-length (c .before .before .fill-range .last .0) ∙ c .before .before .fill-range .ensures ∙ sym (c .before .before .before .before .before .before .before .before .pre .1) ∙ sym (listed-all (c .before .before .before .before .before .before .before .before .args .numbers .now) (length (c .before .before .before .before .before .before .before .before .args .there .now)) (c .before .before .before .before .before .before .before .before .pre .1)),
+      take-length (f .last .0) ∙ f .ensures ∙ sym (s .pre .1) ∙ sym (listed-all (a .numbers .now) (length (a .there .now)) (s .pre .1)),
+      h .ensures,
+      refl,
       refl,
       refl,
       refl,
@@ -48,27 +66,43 @@ slice-relend-prefix-join-next : tie.Need-slice-relend-prefix-join-next Inv-loop 
 slice-relend-prefix-join-next c = omega arith
 
 slice-aggregate-join-next : tie.Need-slice-aggregate-join-next Inv-loop μ-loop
-slice-aggregate-join-next c = sym (length-take-le (c .before .before .before .before .before .loop .left) (c .before .before .before .before .before .loop .there) (c .before .before .before .before .before .loop .inv .2))
+slice-aggregate-join-next c = let l = c .before .before .before .before .before .loop in sym (length-take-le (l .left) (l .there) (l .inv .2))
 
 join-next-requires : tie.Need-join-next-requires Inv-loop μ-loop
-join-next-requires c κs = (c .before .before .before .before .before .loop .inv .0, c .before .before .before .before .before .loop .inv .3)
+join-next-requires c κs = let l = c .before .before .before .before .before .before .loop in (l .inv .0, l .inv .3, l .inv .4)
 
 same-length : tie.Need-same-length Inv-loop μ-loop
-same-length c = c .before .before .before .before .before .before .before .before .before .join-next .kept .0 ∙ c .before .before .before .before .before .before .before .before .before .before .before .before .before .before .before .loop .inv .4
+same-length c = let j = c .before .before .before .before .before .before .before .before .before .before .before in j .join-next .kept .0 ∙ j .before .before .before .before .before .before .before .loop .inv .5
 
 same-length-2 : tie.Need-same-length-2 Inv-loop μ-loop
-same-length-2 c = c .before .before .before .before .before .before .before .before .before .join-next .kept .1 .0 ∙ c .before .before .before .before .before .before .before .before .before .before .before .before .before .before .before .loop .inv .5
+same-length-2 c = let j = c .before .before .before .before .before .before .before .before .before .before .before in j .join-next .kept .1 .0 ∙ j .before .before .before .before .before .before .before .loop .inv .6
 
 same-length-3 : tie.Need-same-length-3 Inv-loop μ-loop
-same-length-3 c = c .before .before .before .before .before .before .before .before .before .join-next .kept .1 .1 .0 ∙ c .before .before .before .before .before .before .before .before .before .before .before .before .before .before .before .loop .inv .6
+same-length-3 c = let j = c .before .before .before .before .before .before .before .before .before .before .before in j .join-next .kept .1 .1 .0 ∙ j .before .before .before .before .before .before .before .loop .inv .7
 
 same-length-4 : tie.Need-same-length-4 Inv-loop μ-loop
-same-length-4 c = length-front (c .before .before .before .before .before .before .before .before .before .before .before .before .before .before .before .loop .there) (c .before .before .before .before .before .before .before .before .before .join-next .last .1 .1 .1 .0) (c .before .before .before .before .before .before .before .before .before .before .before .before .before .before .before .loop .left) (c .before .before .before .before .before .before .before .before .before .join-next .kept .1 .1 .1 .0) ∙ c .before .before .before .before .before .before .before .before .before .before .before .before .before .before .before .loop .inv .7 ∙ c .before .before .before .before .before .before .before .before .before .before .before .before .before .before .before .before .before .before .fill-range .kept .0
+same-length-4 c =
+    let j = c .before .before .before .before .before .before .before .before .before .before .before in
+    let l = j .before .before .before .before .before .before .before .loop in
+    length-front (l .there) (j .join-next .last .1 .1 .1 .0) (l .left) (j .join-next .kept .1 .1 .1 .0) ∙ l .inv .8 ∙ j .before .before .before .before .before .before .before .before .before .before .before .before .before .before .before .fill-range .kept .0
+
+same-length-5 : tie.Need-same-length-5 Inv-loop μ-loop
+same-length-5 c =
+    let j = c .before .before .before .before .before .before .before .before .before .before .before in
+    j .join-next .kept .1 .1 .1 .1 .0 ∙ j .before .before .before .before .before .before .before .loop .inv .9 ∙ j .before .before .before .before .before .before .before .before .before .before .fill-heads .kept .0
 
 returns : tie.Need-returns Inv-loop μ-loop
 returns c =
-    let turn = subst (λ m. Turn (c .before .before .before .before .before .before .before .before .before .before .before .before .before .before .before .before .before .before .before .before .before .before .before .before .args .threshold) m (c .before .before .before .before .before .before .before .before .before .before .before .before .before .before .before .loop .numbers) (c .before .before .before .before .before .before .before .before .before .before .before .before .before .before .before .loop .sizes) (c .before .before .before .before .before .before .before .before .before .before .before .before .before .before .before .loop .bits) (take (c .before .before .before .before .before .before .before .before .before .before .before .before .before .before .before .loop .left) (c .before .before .before .before .before .before .before .before .before .before .before .before .before .before .before .loop .there)) (c .before .before .before .before .before .before .before .before .before .join-next .last .0) (c .before .before .before .before .before .before .before .before .before .join-next .last .1 .0) (c .before .before .before .before .before .before .before .before .before .join-next .last .1 .1 .0) (c .before .before .before .before .before .before .before .before .before .join-next .last .1 .1 .1 .0)) (not-true _ (c .if1 .taken)) (c .before .before .before .before .before .before .before .before .before .join-next .ensures) in
-    record { state = turn-last (c .before .before .before .before .before .before .before .before .before .before .before .before .before .before .before .before .before .before .before .before .before .before .before .before .args .threshold) (c .before .before .before .before .before .before .before .before .before .before .before .before .before .before .before .loop .numbers) (c .before .before .before .before .before .before .before .before .before .before .before .before .before .before .before .loop .sizes) (c .before .before .before .before .before .before .before .before .before .before .before .before .before .before .before .loop .bits) (take (c .before .before .before .before .before .before .before .before .before .before .before .before .before .before .before .loop .left) (c .before .before .before .before .before .before .before .before .before .before .before .before .before .before .before .loop .there)) (c .before .before .before .before .before .before .before .before .before .join-next .last .0) (c .before .before .before .before .before .before .before .before .before .join-next .last .1 .0) (c .before .before .before .before .before .before .before .before .before .join-next .last .1 .1 .0) (c .before .before .before .before .before .before .before .before .before .join-next .last .1 .1 .1 .0) turn (c .before .before .before .before .before .before .before .before .before .before .before .before .before .before .before .loop .left) ∙ c .before .before .before .before .before .before .before .before .before .before .before .before .before .before .before .loop .inv .1; sound = turn .sound }
+    let j = c .before .before .before .before .before .before .before .before .before .before .before in
+    let l = j .before .before .before .before .before .before .before .loop in
+    let a = j .before .before .before .before .before .before .before .before .before .before .before .before .before .before .before .before .before .before .before .before .before .before .args in
+    let turn = subst (λ m. Turn (a .threshold) m (l .numbers) (l .sizes) (l .bits) (take (l .left) (l .there))
+    (j .join-next .last .0) (j .join-next .last .1 .0) (j .join-next .last .1 .1 .0) (j .join-next .last .1 .1 .1 .0) (j .join-next .last .1 .1 .1 .1 .0)) (not-true _ (c .if1 .taken)) (j .join-next .ensures) in
+    record {
+      state = turn-last (a .threshold) (l .numbers) (l .sizes) (l .bits) (take (l .left) (l .there))
+          (j .join-next .last .0) (j .join-next .last .1 .0) (j .join-next .last .1 .1 .0) (j .join-next .last .1 .1 .1 .0) (j .join-next .last .1 .1 .1 .1 .0) turn (l .left) ∙ l .inv .1;
+      sound = turn .sound;
+    }
 
 sub-left : tie.Need-sub-left Inv-loop μ-loop
 sub-left c = omega arith
@@ -78,21 +112,25 @@ loop-less c = omega arith
 
 loop-again : tie.Need-loop-again Inv-loop μ-loop
 loop-again c =
-    let turn = subst (λ m. Turn (c .before .before .before .before .before .before .before .before .before .before .before .before .before .before .before .before .before .before .before .before .before .before .before .before .args .threshold) m (c .before .before .before .before .before .before .before .before .before .before .before .before .before .before .before .loop .numbers) (c .before .before .before .before .before .before .before .before .before .before .before .before .before .before .before .loop .sizes) (c .before .before .before .before .before .before .before .before .before .before .before .before .before .before .before .loop .bits) (take (c .before .before .before .before .before .before .before .before .before .before .before .before .before .before .before .loop .left) (c .before .before .before .before .before .before .before .before .before .before .before .before .before .before .before .loop .there)) (c .before .before .before .before .before .before .before .before .before .join-next .last .0) (c .before .before .before .before .before .before .before .before .before .join-next .last .1 .0) (c .before .before .before .before .before .before .before .before .before .join-next .last .1 .1 .0) (c .before .before .before .before .before .before .before .before .before .join-next .last .1 .1 .1 .0)) (not-false _ (c .if1 .left)) (c .before .before .before .before .before .before .before .before .before .join-next .ensures) in
-    let l = c .before .before .before .before .before .before .before .before .before .before .before .before .before .before .before .loop in
+    let j = c .before .before .before .before .before .before .before .before .before .before .before in
+    let l = j .before .before .before .before .before .before .before .loop in
+    let a = j .before .before .before .before .before .before .before .before .before .before .before .before .before .before .before .before .before .before .before .before .before .before .args in
+    let turn = subst (λ m. Turn (a .threshold) m (l .numbers) (l .sizes) (l .bits) (take (l .left) (l .there))
+    (j .join-next .last .0) (j .join-next .last .1 .0) (j .join-next .last .1 .1 .0) (j .join-next .last .1 .1 .1 .0) (j .join-next .last .1 .1 .1 .1 .0)) (not-false _ (c .if1 .left)) (j .join-next .ensures) in
     let back : suc (l .left - 1) ≡ l .left = omega arith in (
       turn .sound,
-      turn-more (c .before .before .before .before .before .before .before .before .before .before .before .before .before .before .before .before .before .before .before .before .before .before .before .before .args .threshold) (c .before .before .before .before .before .before .before .before .before .before .before .before .before .before .before .loop .numbers) (c .before .before .before .before .before .before .before .before .before .before .before .before .before .before .before .loop .sizes) (c .before .before .before .before .before .before .before .before .before .before .before .before .before .before .before .loop .bits) (take (c .before .before .before .before .before .before .before .before .before .before .before .before .before .before .before .loop .left) (c .before .before .before .before .before .before .before .before .before .before .before .before .before .before .before .loop .there)) (c .before .before .before .before .before .before .before .before .before .join-next .last .0) (c .before .before .before .before .before .before .before .before .before .join-next .last .1 .0) (c .before .before .before .before .before .before .before .before .before .join-next .last .1 .1 .0) (c .before .before .before .before .before .before .before .before .before .join-next .last .1 .1 .1 .0) turn (l .left - 1) ∙ ap (λ n. mergeSteps n (c .before .before .before .before .before .before .before .before .before .before .before .before .before .before .before .before .before .before .before .before .before .before .before .before .args .threshold) (stateOf (l .numbers) (l .sizes) (l .bits))) back ∙ l .inv .1,
-      omega (arith, length-front (l .there) (c .before .before .before .before .before .before .before .before .before .join-next .last .1 .1 .1 .0) (l .left) (c .before .before .before .before .before .before .before .before .before .join-next .kept .1 .1 .1 .0)),
-      list-less (l .there) (c .before .before .before .before .before .before .before .before .before .join-next .last .1 .1 .1 .0) (c .before .before .before .before .before .before .before .before .before .join-next .last .0) (l .left) (l .inv .2) (c .before .before .before .before .before .before .before .before .before .join-next .kept .1 .1 .1 .0) (turn .list refl),
-      c .before .before .before .before .before .before .before .before .before .join-next .kept .0 ∙ l .inv .4,
-      c .before .before .before .before .before .before .before .before .before .join-next .kept .1 .0 ∙ l .inv .5,
-      c .before .before .before .before .before .before .before .before .before .join-next .kept .1 .1 .0 ∙ l .inv .6,
-      length-front (l .there) (c .before .before .before .before .before .before .before .before .before .join-next .last .1 .1 .1 .0) (l .left) (c .before .before .before .before .before .before .before .before .before .join-next .kept .1 .1 .1 .0) ∙ l .inv .7,
+      turn-more (a .threshold) (l .numbers) (l .sizes) (l .bits) (take (l .left) (l .there))
+          (j .join-next .last .0) (j .join-next .last .1 .0) (j .join-next .last .1 .1 .0) (j .join-next .last .1 .1 .1 .0) (j .join-next .last .1 .1 .1 .1 .0) turn (l .left - 1)
+          ∙ ap (λ n. mergeSteps n (a .threshold) (stateOf (l .numbers) (l .sizes) (l .bits))) back ∙ l .inv .1,
+      omega (arith, length-front (l .there) (j .join-next .last .1 .1 .1 .0) (l .left) (j .join-next .kept .1 .1 .1 .0)),
+      list-less (l .there) (j .join-next .last .1 .1 .1 .0) (j .join-next .last .0) (l .left) (l .inv .2) (j .join-next .kept .1 .1 .1 .0) (turn .list refl),
+      turn .heads refl,
+      j .join-next .kept .0 ∙ l .inv .5,
+      j .join-next .kept .1 .0 ∙ l .inv .6,
+      j .join-next .kept .1 .1 .0 ∙ l .inv .7,
+      length-front (l .there) (j .join-next .last .1 .1 .1 .0) (l .left) (j .join-next .kept .1 .1 .1 .0) ∙ l .inv .8,
+      j .join-next .kept .1 .1 .1 .1 .0 ∙ l .inv .9,
     )
-
-same-length-5 : tie.Need-same-length-5 Inv-loop μ-loop
-same-length-5 c = c .before .loop .inv .4
 
 same-length-6 : tie.Need-same-length-6 Inv-loop μ-loop
 same-length-6 c = c .before .loop .inv .5
@@ -101,15 +139,22 @@ same-length-7 : tie.Need-same-length-7 Inv-loop μ-loop
 same-length-7 c = c .before .loop .inv .6
 
 same-length-8 : tie.Need-same-length-8 Inv-loop μ-loop
-same-length-8 c = c .before .loop .inv .7 ∙ c .before .before .before .before .fill-range .kept .0
+same-length-8 c = c .before .loop .inv .7
+
+same-length-9 : tie.Need-same-length-9 Inv-loop μ-loop
+same-length-9 c = c .before .loop .inv .8 ∙ c .before .before .before .before .before .before .before .before .before .fill-range .kept .0
+
+same-length-10 : tie.Need-same-length-10 Inv-loop μ-loop
+same-length-10 c = c .before .loop .inv .9 ∙ c .before .before .before .before .fill-heads .kept .0
 
 returns-2 : tie.Need-returns-2 Inv-loop μ-loop
 unfolding mergeSteps
 returns-2 c =
     let l = c .before .loop in
+    let a = c .before .before .before .before .before .before .before .before .before .before .before .before .before .before .before .before .args in
     let none : 0 ≡ l .left = omega arith in
     record {
-      state = ap (λ n. mergeSteps n (c .before .before .before .before .before .before .before .before .before .before .args .threshold) (stateOf (l .numbers) (l .sizes) (l .bits))) none ∙ l .inv .1;
+      state = ap (λ n. mergeSteps n (a .threshold) (stateOf (l .numbers) (l .sizes) (l .bits))) none ∙ l .inv .1;
       sound = l .inv .0;
     }
 
@@ -120,6 +165,7 @@ join-all-spec =
     Inv-loop
     μ-loop
     fill-range-requires
+    fill-heads-requires
     loop-holds
     slice-relend-prefix-join-next
     slice-aggregate-join-next
@@ -128,12 +174,14 @@ join-all-spec =
     same-length-2
     same-length-3
     same-length-4
+    same-length-5
     returns
     sub-left
     loop-less
     loop-again
-    same-length-5
     same-length-6
     same-length-7
     same-length-8
+    same-length-9
+    same-length-10
     returns-2)

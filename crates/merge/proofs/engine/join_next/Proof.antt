@@ -1,4 +1,5 @@
--- The two searches find the definition's next join: where one finds nothing there is none, else it is made.
+-- The two searches find the definition's next join: where one finds nothing there is none, else it is made, and the two blocks that it changes are
+-- looked through again.
 use Prim.Native.Nat.{_-_}
 use mathlib.Core.Path.{sym, ap, _∙_}
 use native.Mathlib.Omega.{arith}
@@ -7,13 +8,16 @@ use lib.ListN.{length, take}
 use lib.Seq.{length-take-le}
 use Rattle.lists.proofs.KeepLength.{mem-length}
 use Rattle.merge.specs.Search.{held}
-use Rattle.merge.proofs.Turning.{reads-all, turn-without-seeker, seeker-row, seeker-listed, reads-left, turn-without-target, target-row, join-fits, turn-with-join}
+use Rattle.merge.proofs.Turning.{reads-heads, turn-without-seeker, seeker-row, seeker-listed, reads-left, turn-without-target, target-row, join-fits, refresh-fits, turn-with-join}
 use borrow.Author.Needs.{needs}
 use Rattle.merge.proofs.engine.join_next.Statement.{statement}
 use Rattle.merge.proofs.engine.join_next.Tie as tie
 
 find-seeker-requires : tie.Need-find-seeker-requires
-find-seeker-requires c κs = reads-all (c .before .before .before .before .before .before .args .threshold) (c .before .before .before .before .before .before .args .numbers .now) (c .before .before .before .before .before .before .args .sizes .now) (c .before .before .before .before .before .before .args .bits .now) (c .before .before .before .before .before .before .args .there .now) (c .before .before .before .before .before .before .pre .0) (c .before .before .before .before .before .before .pre .1)
+find-seeker-requires c κs =
+    let s = c .before .before .before .before .before .before .before in
+    let a = s .args in
+    reads-heads (a .threshold) (a .numbers .now) (a .sizes .now) (a .bits .now) (a .there .now) (a .heads .now) (s .pre .0) (s .pre .1) (s .pre .2)
 
 same-length : tie.Need-same-length
 same-length c = search needs
@@ -22,28 +26,73 @@ same-length-2 : tie.Need-same-length-2
 same-length-2 c = search needs
 
 returns : tie.Need-returns
-returns c = turn-without-seeker (c .before .before .before .before .before .before .before .before .before .args .threshold) (c .before .before .before .before .before .before .before .before .before .args .numbers .now) (c .before .before .before .before .before .before .before .before .before .args .sizes .now) (c .before .before .before .before .before .before .before .before .before .args .bits .now) (c .before .before .before .before .before .before .before .before .before .args .there .now) (c .before .before .before .before .before .before .before .before .before .pre .0) (c .before .before .before .before .before .before .before .before .before .pre .1) (c .before .before .find-seeker .result) (c .before .before .find-seeker .ensures) (not-true _ (c .if1 .taken))
+returns c =
+    let f = c .before .before in
+    let s = f .before .before .before .before .before .before .before .before in
+    let a = s .args in
+    turn-without-seeker (a .threshold) (a .numbers .now) (a .sizes .now) (a .bits .now) (a .there .now) (a .heads .now) (s .pre .0) (s .pre .1) (s .pre .2)
+    (f .find-seeker .result) (f .find-seeker .ensures) (not-true _ (c .if1 .taken))
 
 subgroup-at-requires : tie.Need-subgroup-at-requires
-subgroup-at-requires c κs = let row = seeker-row (c .before .before .before .before .before .before .before .before .before .before .before .args .threshold) (c .before .before .before .before .before .before .before .before .before .before .before .args .numbers .now) (c .before .before .before .before .before .before .before .before .before .before .before .args .sizes .now) (c .before .before .before .before .before .before .before .before .before .before .before .args .bits .now) (c .before .before .before .before .before .before .before .before .before .before .before .args .there .now) (c .before .before .before .before .before .before .before .before .before .before .before .pre .0) (c .before .before .before .before .before .before .before .before .before .before .before .pre .1) (c .before .before .before .before .find-seeker .result) (c .before .before .before .before .find-seeker .ensures) (not-false _ (c .before .before .if1 .left)) in (row .1, row .2)
+subgroup-at-requires c κs =
+    let p = c .before .before in
+    let f = p .before .before in
+    let s = f .before .before .before .before .before .before .before .before in
+    let a = s .args in
+    let row = seeker-row (a .threshold) (a .numbers .now) (a .sizes .now) (a .bits .now) (a .there .now) (a .heads .now) (s .pre .0) (s .pre .1) (s .pre .2)
+    (f .find-seeker .result) (f .find-seeker .ensures) (not-false _ (p .if1 .left)) in
+    (row .1, row .2)
 
 cast-remove : tie.Need-cast-remove
-cast-remove c = let row = seeker-row (c .before .before .before .before .before .before .before .before .before .before .before .before .before .args .threshold) (c .before .before .before .before .before .before .before .before .before .before .before .before .before .args .numbers .now) (c .before .before .before .before .before .before .before .before .before .before .before .before .before .args .sizes .now) (c .before .before .before .before .before .before .before .before .before .before .before .before .before .args .bits .now) (c .before .before .before .before .before .before .before .before .before .before .before .before .before .args .there .now) (c .before .before .before .before .before .before .before .before .before .before .before .before .before .pre .0) (c .before .before .before .before .before .before .before .before .before .before .before .before .before .pre .1) (c .before .before .before .before .before .before .find-seeker .result) (c .before .before .before .before .before .before .find-seeker .ensures) (not-false _ (c .before .before .before .before .if1 .left)) in omega (arith, row .0, c .before .before .before .before .before .before .before .before .before .before .before .before .before .pre .0 .tables .count)
+cast-remove c =
+    let p = c .before .before .before .before in
+    let f = p .before .before in
+    let s = f .before .before .before .before .before .before .before .before in
+    let a = s .args in
+    let row = seeker-row (a .threshold) (a .numbers .now) (a .sizes .now) (a .bits .now) (a .there .now) (a .heads .now) (s .pre .0) (s .pre .1) (s .pre .2)
+    (f .find-seeker .result) (f .find-seeker .ensures) (not-false _ (p .if1 .left)) in
+    omega (arith, row .0, s .pre .0 .tables .count)
 
 remove-requires : tie.Need-remove-requires
-remove-requires c κs = seeker-listed (c .before .before .before .before .before .before .before .before .before .before .before .before .before .args .threshold) (c .before .before .before .before .before .before .before .before .before .before .before .before .before .args .numbers .now) (c .before .before .before .before .before .before .before .before .before .before .before .before .before .args .sizes .now) (c .before .before .before .before .before .before .before .before .before .before .before .before .before .args .bits .now) (c .before .before .before .before .before .before .before .before .before .before .before .before .before .args .there .now) (c .before .before .before .before .before .before .before .before .before .before .before .before .before .pre .0) (c .before .before .before .before .before .before .before .before .before .before .before .before .before .pre .1) (c .before .before .before .before .before .before .find-seeker .result) (c .before .before .before .before .before .before .find-seeker .ensures) (not-false _ (c .before .before .before .before .if1 .left))
+remove-requires c κs =
+    let p = c .before .before .before .before in
+    let f = p .before .before in
+    let s = f .before .before .before .before .before .before .before .before in
+    let a = s .args in
+    seeker-listed (a .threshold) (a .numbers .now) (a .sizes .now) (a .bits .now) (a .there .now) (a .heads .now) (s .pre .0) (s .pre .1) (s .pre .2)
+    (f .find-seeker .result) (f .find-seeker .ensures) (not-false _ (p .if1 .left))
 
 sub-left : tie.Need-sub-left
-sub-left c = omega (arith, mem-length (seeker-listed (c .before .before .before .before .before .before .before .before .before .before .before .before .before .before .before .before .args .threshold) (c .before .before .before .before .before .before .before .before .before .before .before .before .before .before .before .before .args .numbers .now) (c .before .before .before .before .before .before .before .before .before .before .before .before .before .before .before .before .args .sizes .now) (c .before .before .before .before .before .before .before .before .before .before .before .before .before .before .before .before .args .bits .now) (c .before .before .before .before .before .before .before .before .before .before .before .before .before .before .before .before .args .there .now) (c .before .before .before .before .before .before .before .before .before .before .before .before .before .before .before .before .pre .0) (c .before .before .before .before .before .before .before .before .before .before .before .before .before .before .before .before .pre .1) (c .before .before .before .before .before .before .before .before .before .find-seeker .result) (c .before .before .before .before .before .before .before .before .before .find-seeker .ensures) (not-false _ (c .before .before .before .before .before .before .before .if1 .left)) .1), c .before .before .remove .kept .0)
+sub-left c =
+    let u = c .before .before .before .before in
+    let p = u .before .before .before in
+    let f = p .before .before in
+    let s = f .before .before .before .before .before .before .before .before in
+    let a = s .args in
+    let on-list = seeker-listed (a .threshold) (a .numbers .now) (a .sizes .now) (a .bits .now) (a .there .now) (a .heads .now) (s .pre .0) (s .pre .1) (s .pre .2)
+    (f .find-seeker .result) (f .find-seeker .ensures) (not-false _ (p .if1 .left)) in
+    omega (arith, mem-length (on-list .1), c .before .before .remove .kept .0)
 
 slice-reshare-prefix-find-target : tie.Need-slice-reshare-prefix-find-target
 slice-reshare-prefix-find-target c = search needs
 
 slice-aggregate-find-target : tie.Need-slice-aggregate-find-target
-slice-aggregate-find-target c = sym (length-take-le (length (c .before .before .before .remove .last .0) - 1) (c .before .before .before .remove .last .0) (omega arith))
+slice-aggregate-find-target c =
+    let v = c .before .before .before in
+    sym (length-take-le (length (v .remove .last .0) - 1) (v .remove .last .0) (omega arith))
 
 find-target-requires : tie.Need-find-target-requires
-find-target-requires c κs = reads-left (c .before .before .before .before .before .before .before .before .before .before .before .before .before .before .before .before .before .before .before .args .threshold) (c .before .before .before .before .before .before .before .before .before .before .before .before .before .before .before .before .before .before .before .args .numbers .now) (c .before .before .before .before .before .before .before .before .before .before .before .before .before .before .before .before .before .before .before .args .sizes .now) (c .before .before .before .before .before .before .before .before .before .before .before .before .before .before .before .before .before .before .before .args .bits .now) (c .before .before .before .before .before .before .before .before .before .before .before .before .before .before .before .before .before .before .before .args .there .now) (c .before .before .before .before .before .before .before .before .before .before .before .before .before .before .before .before .before .before .before .pre .0) (c .before .before .before .before .before .before .before .before .before .before .before .before .before .before .before .before .before .before .before .pre .1) (c .before .before .before .before .before .before .before .before .before .before .before .before .find-seeker .result) (c .before .before .before .before .before .before .before .before .before .before .before .before .find-seeker .ensures) (not-false _ (c .before .before .before .before .before .before .before .before .before .before .if1 .left)) (held (c .before .before .before .before .before .before .before .subgroup-at .result)) (c .before .before .before .before .before .before .before .subgroup-at .ensures) (take (length (c .before .before .before .before .before .remove .last .0) - 1) (c .before .before .before .before .before .remove .last .0)) (ap (λ n. take (n - 1) (c .before .before .before .before .before .remove .last .0)) (c .before .before .before .before .before .remove .kept .0) ∙ c .before .before .before .before .before .remove .ensures)
+find-target-requires c κs =
+    let v = c .before .before .before .before .before in
+    let u = v .before .before in
+    let p = u .before .before .before in
+    let f = p .before .before in
+    let s = f .before .before .before .before .before .before .before .before in
+    let a = s .args in
+    let left = take (length (v .remove .last .0) - 1) (v .remove .last .0) in
+    let is-left = ap (λ n. take (n - 1) (v .remove .last .0)) (v .remove .kept .0) ∙ v .remove .ensures in
+    reads-left (a .threshold) (a .numbers .now) (a .sizes .now) (a .bits .now) (a .there .now) (a .heads .now) (s .pre .0) (s .pre .1) (s .pre .2)
+    (f .find-seeker .result) (f .find-seeker .ensures) (not-false _ (p .if1 .left)) (held (u .subgroup-at .result)) (u .subgroup-at .ensures) left is-left
 
 same-length-3 : tie.Need-same-length-3
 same-length-3 c = search needs
@@ -54,17 +103,92 @@ same-length-4 c = search needs
 same-length-5 : tie.Need-same-length-5
 same-length-5 c = search needs
 
-returns-2 : tie.Need-returns-2
-returns-2 c = turn-without-target (c .before .before .before .before .before .before .before .before .before .before .before .before .before .before .before .before .before .before .before .before .before .before .args .threshold) (c .before .before .before .before .before .before .before .before .before .before .before .before .before .before .before .before .before .before .before .before .before .before .args .numbers .now) (c .before .before .before .before .before .before .before .before .before .before .before .before .before .before .before .before .before .before .before .before .before .before .args .sizes .now) (c .before .before .before .before .before .before .before .before .before .before .before .before .before .before .before .before .before .before .before .before .before .before .args .bits .now) (c .before .before .before .before .before .before .before .before .before .before .before .before .before .before .before .before .before .before .before .before .before .before .args .there .now) (c .before .before .before .before .before .before .before .before .before .before .before .before .before .before .before .before .before .before .before .before .before .before .pre .0) (c .before .before .before .before .before .before .before .before .before .before .before .before .before .before .before .before .before .before .before .before .before .before .pre .1) (c .before .before .before .before .before .before .before .before .before .before .before .before .before .before .before .find-seeker .result) (c .before .before .before .before .before .before .before .before .before .before .before .before .before .before .before .find-seeker .ensures) (not-false _ (c .before .before .before .before .before .before .before .before .before .before .before .before .before .if1 .left)) (held (c .before .before .before .before .before .before .before .before .before .before .subgroup-at .result)) (c .before .before .before .before .before .before .before .before .before .before .subgroup-at .ensures) (take (length (c .before .before .before .before .before .before .before .before .remove .last .0) - 1) (c .before .before .before .before .before .before .before .before .remove .last .0)) (ap (λ n. take (n - 1) (c .before .before .before .before .before .before .before .before .remove .last .0)) (c .before .before .before .before .before .before .before .before .remove .kept .0) ∙ c .before .before .before .before .before .before .before .before .remove .ensures) (c .before .before .find-target .result) (c .before .before .find-target .ensures) (not-true _ (c .if2 .taken)) (c .before .before .before .before .before .before .before .before .remove .last .0)
-
-subgroup-at-requires-2 : tie.Need-subgroup-at-requires-2
-subgroup-at-requires-2 c κs = target-row (c .before .before .before .before .before .before .before .before .before .before .before .before .before .before .before .before .before .before .before .before .before .before .before .before .args .threshold) (c .before .before .before .before .before .before .before .before .before .before .before .before .before .before .before .before .before .before .before .before .before .before .before .before .args .numbers .now) (c .before .before .before .before .before .before .before .before .before .before .before .before .before .before .before .before .before .before .before .before .before .before .before .before .args .sizes .now) (c .before .before .before .before .before .before .before .before .before .before .before .before .before .before .before .before .before .before .before .before .before .before .before .before .args .bits .now) (c .before .before .before .before .before .before .before .before .before .before .before .before .before .before .before .before .before .before .before .before .before .before .before .before .args .there .now) (c .before .before .before .before .before .before .before .before .before .before .before .before .before .before .before .before .before .before .before .before .before .before .before .before .pre .0) (c .before .before .before .before .before .before .before .before .before .before .before .before .before .before .before .before .before .before .before .before .before .before .before .before .pre .1) (c .before .before .before .before .before .before .before .before .before .before .before .before .before .before .before .before .before .find-seeker .result) (c .before .before .before .before .before .before .before .before .before .before .before .before .before .before .before .before .before .find-seeker .ensures) (not-false _ (c .before .before .before .before .before .before .before .before .before .before .before .before .before .before .before .if1 .left)) (held (c .before .before .before .before .before .before .before .before .before .before .before .before .subgroup-at .result)) (c .before .before .before .before .before .before .before .before .before .before .before .before .subgroup-at .ensures) (take (length (c .before .before .before .before .before .before .before .before .before .before .remove .last .0) - 1) (c .before .before .before .before .before .before .before .before .before .before .remove .last .0)) (ap (λ n. take (n - 1) (c .before .before .before .before .before .before .before .before .before .before .remove .last .0)) (c .before .before .before .before .before .before .before .before .before .before .remove .kept .0) ∙ c .before .before .before .before .before .before .before .before .before .before .remove .ensures) (c .before .before .before .before .find-target .result) (c .before .before .before .before .find-target .ensures) (not-false _ (c .before .before .if2 .left))
-
-join-requires : tie.Need-join-requires
-join-requires c κs = join-fits (c .before .before .before .before .before .before .before .before .before .before .before .before .before .before .before .before .before .before .before .before .before .before .before .before .before .before .before .before .args .threshold) (c .before .before .before .before .before .before .before .before .before .before .before .before .before .before .before .before .before .before .before .before .before .before .before .before .before .before .before .before .args .numbers .now) (c .before .before .before .before .before .before .before .before .before .before .before .before .before .before .before .before .before .before .before .before .before .before .before .before .before .before .before .before .args .sizes .now) (c .before .before .before .before .before .before .before .before .before .before .before .before .before .before .before .before .before .before .before .before .before .before .before .before .before .before .before .before .args .bits .now) (c .before .before .before .before .before .before .before .before .before .before .before .before .before .before .before .before .before .before .before .before .before .before .before .before .before .before .before .before .args .there .now) (c .before .before .before .before .before .before .before .before .before .before .before .before .before .before .before .before .before .before .before .before .before .before .before .before .before .before .before .before .pre .0) (c .before .before .before .before .before .before .before .before .before .before .before .before .before .before .before .before .before .before .before .before .before .before .before .before .before .before .before .before .pre .1) (c .before .before .before .before .before .before .before .before .before .before .before .before .before .before .before .before .before .before .before .before .before .find-seeker .result) (c .before .before .before .before .before .before .before .before .before .before .before .before .before .before .before .before .before .before .before .before .before .find-seeker .ensures) (not-false _ (c .before .before .before .before .before .before .before .before .before .before .before .before .before .before .before .before .before .before .before .if1 .left)) (held (c .before .before .before .before .before .before .before .before .before .before .before .before .before .before .before .before .subgroup-at .result)) (c .before .before .before .before .before .before .before .before .before .before .before .before .before .before .before .before .subgroup-at .ensures) (take (length (c .before .before .before .before .before .before .before .before .before .before .before .before .before .before .remove .last .0) - 1) (c .before .before .before .before .before .before .before .before .before .before .before .before .before .before .remove .last .0)) (ap (λ n. take (n - 1) (c .before .before .before .before .before .before .before .before .before .before .before .before .before .before .remove .last .0)) (c .before .before .before .before .before .before .before .before .before .before .before .before .before .before .remove .kept .0) ∙ c .before .before .before .before .before .before .before .before .before .before .before .before .before .before .remove .ensures) (c .before .before .before .before .before .before .before .before .find-target .result) (c .before .before .before .before .before .before .before .before .find-target .ensures) (not-false _ (c .before .before .before .before .before .before .if2 .left)) (held (c .before .before .before .subgroup-at2 .result)) (c .before .before .before .subgroup-at2 .ensures)
-
 same-length-6 : tie.Need-same-length-6
 same-length-6 c = search needs
+
+returns-2 : tie.Need-returns-2
+returns-2 c =
+    let d = c .before .before in
+    let v = d .before .before .before .before .before .before in
+    let u = v .before .before in
+    let p = u .before .before .before in
+    let f = p .before .before in
+    let s = f .before .before .before .before .before .before .before .before in
+    let a = s .args in
+    let left = take (length (v .remove .last .0) - 1) (v .remove .last .0) in
+    let is-left = ap (λ n. take (n - 1) (v .remove .last .0)) (v .remove .kept .0) ∙ v .remove .ensures in
+    turn-without-target (a .threshold) (a .numbers .now) (a .sizes .now) (a .bits .now) (a .there .now) (a .heads .now) (s .pre .0) (s .pre .1) (s .pre .2)
+    (f .find-seeker .result) (f .find-seeker .ensures) (not-false _ (p .if1 .left)) (held (u .subgroup-at .result)) (u .subgroup-at .ensures) left is-left (d .find-target .result) (d .find-target .ensures) (not-true _ (c .if2 .taken)) (v .remove .last .0)
+
+subgroup-at-requires-2 : tie.Need-subgroup-at-requires-2
+subgroup-at-requires-2 c κs =
+    let q = c .before .before in
+    let d = q .before .before in
+    let v = d .before .before .before .before .before .before in
+    let u = v .before .before in
+    let p = u .before .before .before in
+    let f = p .before .before in
+    let s = f .before .before .before .before .before .before .before .before in
+    let a = s .args in
+    let left = take (length (v .remove .last .0) - 1) (v .remove .last .0) in
+    let is-left = ap (λ n. take (n - 1) (v .remove .last .0)) (v .remove .kept .0) ∙ v .remove .ensures in
+    target-row (a .threshold) (a .numbers .now) (a .sizes .now) (a .bits .now) (a .there .now) (a .heads .now) (s .pre .0) (s .pre .1) (s .pre .2)
+    (f .find-seeker .result) (f .find-seeker .ensures) (not-false _ (p .if1 .left)) (held (u .subgroup-at .result)) (u .subgroup-at .ensures) left is-left (d .find-target .result) (d .find-target .ensures) (not-false _ (q .if2 .left))
+
+join-requires : tie.Need-join-requires
+join-requires c κs =
+    let w = c .before .before .before in
+    let q = w .before .before .before in
+    let d = q .before .before in
+    let v = d .before .before .before .before .before .before in
+    let u = v .before .before in
+    let p = u .before .before .before in
+    let f = p .before .before in
+    let s = f .before .before .before .before .before .before .before .before in
+    let a = s .args in
+    let left = take (length (v .remove .last .0) - 1) (v .remove .last .0) in
+    let is-left = ap (λ n. take (n - 1) (v .remove .last .0)) (v .remove .kept .0) ∙ v .remove .ensures in
+    join-fits (a .threshold) (a .numbers .now) (a .sizes .now) (a .bits .now) (a .there .now) (a .heads .now) (s .pre .0) (s .pre .1) (s .pre .2)
+    (f .find-seeker .result) (f .find-seeker .ensures) (not-false _ (p .if1 .left)) (held (u .subgroup-at .result)) (u .subgroup-at .ensures) left is-left (d .find-target .result) (d .find-target .ensures) (not-false _ (q .if2 .left)) (held (w .subgroup-at2 .result)) (w .subgroup-at2 .ensures)
+
+refresh-requires : tie.Need-refresh-requires
+refresh-requires c κs =
+    let j = c .before .before .before .before .before .before .before .before in
+    let w = j .before .before .before .before in
+    let q = w .before .before .before in
+    let d = q .before .before in
+    let v = d .before .before .before .before .before .before in
+    let u = v .before .before in
+    let p = u .before .before .before in
+    let f = p .before .before in
+    let s = f .before .before .before .before .before .before .before .before in
+    let a = s .args in
+    let left = take (length (v .remove .last .0) - 1) (v .remove .last .0) in
+    let is-left = ap (λ n. take (n - 1) (v .remove .last .0)) (v .remove .kept .0) ∙ v .remove .ensures in
+    let fits = refresh-fits (a .threshold) (a .numbers .now) (a .sizes .now) (a .bits .now) (a .there .now) (a .heads .now) (s .pre .0) (s .pre .1) (s .pre .2)
+    (f .find-seeker .result) (f .find-seeker .ensures) (not-false _ (p .if1 .left)) (held (u .subgroup-at .result)) (u .subgroup-at .ensures) left is-left (d .find-target .result) (d .find-target .ensures) (not-false _ (q .if2 .left)) (held (w .subgroup-at2 .result)) (w .subgroup-at2 .ensures)
+    (j .join .last .0) (j .join .last .1 .0) (j .join .last .1 .1 .0) (j .join .ensures) in
+    (fits .0, fits .1, fits .2, fits .4)
+
+refresh-requires-2 : tie.Need-refresh-requires-2
+refresh-requires-2 c κs =
+    let r = c .before .before .before .before in
+    let j = r .before .before .before .before .before .before .before .before .before in
+    let w = j .before .before .before .before in
+    let q = w .before .before .before in
+    let d = q .before .before in
+    let v = d .before .before .before .before .before .before in
+    let u = v .before .before in
+    let p = u .before .before .before in
+    let f = p .before .before in
+    let s = f .before .before .before .before .before .before .before .before in
+    let a = s .args in
+    let left = take (length (v .remove .last .0) - 1) (v .remove .last .0) in
+    let is-left = ap (λ n. take (n - 1) (v .remove .last .0)) (v .remove .kept .0) ∙ v .remove .ensures in
+    let fits = refresh-fits (a .threshold) (a .numbers .now) (a .sizes .now) (a .bits .now) (a .there .now) (a .heads .now) (s .pre .0) (s .pre .1) (s .pre .2)
+    (f .find-seeker .result) (f .find-seeker .ensures) (not-false _ (p .if1 .left)) (held (u .subgroup-at .result)) (u .subgroup-at .ensures) left is-left (d .find-target .result) (d .find-target .ensures) (not-false _ (q .if2 .left)) (held (w .subgroup-at2 .result)) (w .subgroup-at2 .ensures)
+    (j .join .last .0) (j .join .last .1 .0) (j .join .last .1 .1 .0) (j .join .ensures) in
+    (fits .0, fits .1, fits .3, omega (arith, fits .4, r .refresh .kept .0))
 
 same-length-7 : tie.Need-same-length-7
 same-length-7 c = search needs
@@ -75,8 +199,32 @@ same-length-8 c = search needs
 same-length-9 : tie.Need-same-length-9
 same-length-9 c = search needs
 
+same-length-10 : tie.Need-same-length-10
+same-length-10 c = c .before .before .before .before .before .before .before .before .before .before .before .before .before .before .before .before .before .before .before .before .before .before .before .before .before .before .before .before .before .before .before .remove .kept .0
+
+same-length-11 : tie.Need-same-length-11
+same-length-11 c = search needs
+
 returns-3 : tie.Need-returns-3
-returns-3 c = turn-with-join (c .before .before .before .before .before .before .before .before .before .before .before .before .before .before .before .before .before .before .before .before .before .before .before .before .before .before .before .before .before .before .before .before .before .before .before .args .threshold) (c .before .before .before .before .before .before .before .before .before .before .before .before .before .before .before .before .before .before .before .before .before .before .before .before .before .before .before .before .before .before .before .before .before .before .before .args .numbers .now) (c .before .before .before .before .before .before .before .before .before .before .before .before .before .before .before .before .before .before .before .before .before .before .before .before .before .before .before .before .before .before .before .before .before .before .before .args .sizes .now) (c .before .before .before .before .before .before .before .before .before .before .before .before .before .before .before .before .before .before .before .before .before .before .before .before .before .before .before .before .before .before .before .before .before .before .before .args .bits .now) (c .before .before .before .before .before .before .before .before .before .before .before .before .before .before .before .before .before .before .before .before .before .before .before .before .before .before .before .before .before .before .before .before .before .before .before .args .there .now) (c .before .before .before .before .before .before .before .before .before .before .before .before .before .before .before .before .before .before .before .before .before .before .before .before .before .before .before .before .before .before .before .before .before .before .before .pre .0) (c .before .before .before .before .before .before .before .before .before .before .before .before .before .before .before .before .before .before .before .before .before .before .before .before .before .before .before .before .before .before .before .before .before .before .before .pre .1) (c .before .before .before .before .before .before .before .before .before .before .before .before .before .before .before .before .before .before .before .before .before .before .before .before .before .before .before .before .find-seeker .result) (c .before .before .before .before .before .before .before .before .before .before .before .before .before .before .before .before .before .before .before .before .before .before .before .before .before .before .before .before .find-seeker .ensures) (not-false _ (c .before .before .before .before .before .before .before .before .before .before .before .before .before .before .before .before .before .before .before .before .before .before .before .before .before .before .if1 .left)) (held (c .before .before .before .before .before .before .before .before .before .before .before .before .before .before .before .before .before .before .before .before .before .before .before .subgroup-at .result)) (c .before .before .before .before .before .before .before .before .before .before .before .before .before .before .before .before .before .before .before .before .before .before .before .subgroup-at .ensures) (take (length (c .before .before .before .before .before .before .before .before .before .before .before .before .before .before .before .before .before .before .before .before .before .remove .last .0) - 1) (c .before .before .before .before .before .before .before .before .before .before .before .before .before .before .before .before .before .before .before .before .before .remove .last .0)) (ap (λ n. take (n - 1) (c .before .before .before .before .before .before .before .before .before .before .before .before .before .before .before .before .before .before .before .before .before .remove .last .0)) (c .before .before .before .before .before .before .before .before .before .before .before .before .before .before .before .before .before .before .before .before .before .remove .kept .0) ∙ c .before .before .before .before .before .before .before .before .before .before .before .before .before .before .before .before .before .before .before .before .before .remove .ensures) (c .before .before .before .before .before .before .before .before .before .before .before .before .before .before .before .find-target .result) (c .before .before .before .before .before .before .before .before .before .before .before .before .before .before .before .find-target .ensures) (not-false _ (c .before .before .before .before .before .before .before .before .before .before .before .before .before .if2 .left)) (held (c .before .before .before .before .before .before .before .before .before .before .subgroup-at2 .result)) (c .before .before .before .before .before .before .before .before .before .before .subgroup-at2 .ensures) (c .before .before .before .before .before .before .join .last .0) (c .before .before .before .before .before .before .join .last .1 .0) (c .before .before .before .before .before .before .join .last .1 .1 .0) (c .before .before .before .before .before .before .before .before .before .before .before .before .before .before .before .before .before .before .before .before .before .remove .last .0) (c .before .before .before .before .before .before .join .ensures) (sym (ap (λ n. take (n - 1) (c .before .before .before .before .before .before .before .before .before .before .before .before .before .before .before .before .before .before .before .before .before .remove .last .0)) (c .before .before .before .before .before .before .before .before .before .before .before .before .before .before .before .before .before .before .before .before .before .remove .kept .0)))
+returns-3 c =
+    let x = c .before .before in
+    let r = c .before .before .before .before .before .before .before in
+    let j = r .before .before .before .before .before .before .before .before .before in
+    let w = j .before .before .before .before in
+    let q = w .before .before .before in
+    let d = q .before .before in
+    let v = d .before .before .before .before .before .before in
+    let u = v .before .before in
+    let p = u .before .before .before in
+    let f = p .before .before in
+    let s = f .before .before .before .before .before .before .before .before in
+    let a = s .args in
+    let left = take (length (v .remove .last .0) - 1) (v .remove .last .0) in
+    let is-left = ap (λ n. take (n - 1) (v .remove .last .0)) (v .remove .kept .0) ∙ v .remove .ensures in
+    turn-with-join (a .threshold) (a .numbers .now) (a .sizes .now) (a .bits .now) (a .there .now) (a .heads .now) (s .pre .0) (s .pre .1) (s .pre .2)
+    (f .find-seeker .result) (f .find-seeker .ensures) (not-false _ (p .if1 .left)) (held (u .subgroup-at .result)) (u .subgroup-at .ensures) left is-left (d .find-target .result) (d .find-target .ensures) (not-false _ (q .if2 .left)) (held (w .subgroup-at2 .result)) (w .subgroup-at2 .ensures)
+    (j .join .last .0) (j .join .last .1 .0) (j .join .last .1 .1 .0) (v .remove .last .0) (j .join .ensures) (sym (ap (λ n. take (n - 1) (v .remove .last .0)) (v .remove .kept .0)))
+    (r .refresh .last .0) (x .refresh2 .last .0) (r .refresh .kept .0) (x .refresh2 .kept .0) (r .refresh .ensures) (x .refresh2 .ensures)
 
 pub join-next-spec : {M : Type 1} → statement M
 join-next-spec =
@@ -96,11 +244,15 @@ join-next-spec =
     same-length-3
     same-length-4
     same-length-5
+    same-length-6
     returns-2
     subgroup-at-requires-2
     join-requires
-    same-length-6
+    refresh-requires
+    refresh-requires-2
     same-length-7
     same-length-8
     same-length-9
+    same-length-10
+    same-length-11
     returns-3)

@@ -22,6 +22,9 @@ returns c =
     let s = c .before .before .before .before .before .before .before .before in
     done-too-few (s .args .numbers .now) (s .args .sizes .now) (s .args .bits .now) (s .pre) (f .last .0) (f .ensures) (s .args .threshold) (c .if1 .taken)
 
+add-blocks : tie.Need-add-blocks
+add-blocks c = search needs
+
 array-borrow-prefix-there : tie.Need-array-borrow-prefix-there
 array-borrow-prefix-there c = search needs
 
@@ -31,12 +34,24 @@ slice-aggregate-join-all c =
     let s = c .before .before .before .before .before .before .before .before .before .before .before .before .before in
     sym (length-take-le _ _ (omega (arith, f .kept .0, s .pre .count)))
 
+array-borrow-prefix-heads : tie.Need-array-borrow-prefix-heads
+array-borrow-prefix-heads c = search needs
+
+slice-aggregate-join-all-2 : tie.Need-slice-aggregate-join-all-2
+slice-aggregate-join-all-2 c =
+    let f = c .before .before .before .before .before .before .before .before .before .fill-range in
+    let s = c .before .before .before .before .before .before .before .before .before .before .before .before .before .before in
+    sym (length-take-le _ _ (omega (arith, f .kept .0, s .pre .count)))
+
 join-all-requires : tie.Need-join-all-requires
 join-all-requires c κs =
-    let f = c .before .before .before .before .before .before .before .before .fill-range in
-    let s = c .before .before .before .before .before .before .before .before .before .before .before .before .before in (
+    let f = c .before .before .before .before .before .before .before .before .before .fill-range in
+    let s = c .before .before .before .before .before .before .before .before .before .before .before .before .before .before in
+    let blocks = slice-aggregate-join-all-2 c in (
       start-sound (s .args .numbers .now) (s .args .sizes .now) (s .args .bits .now) (s .pre) (f .last .0) (f .ensures),
-      f .ensures ∙ ap (range 0) (sym (f .kept .0) ∙ slice-aggregate-join-all c),
+      f .ensures ∙ ap (range 0) (sym (f .kept .0) ∙ slice-aggregate-join-all (c .before)),
+      omega (arith, blocks, f .kept .0, s .pre .sizes-fit),
+      omega (arith, blocks, f .kept .0, s .pre .sizes-fit),
     )
 
 same-length-2 : tie.Need-same-length-2
@@ -50,12 +65,14 @@ same-length-4 c = search needs
 
 returns-2 : tie.Need-returns-2
 returns-2 c =
-    let j = c .before .before .before .before .before .before .before .join-all in
-    let f = c .before .before .before .before .before .before .before .before .before .before .before .before .before .before .before .before .fill-range in
-    let s = c .before .before .before .before .before .before .before .before .before .before .before .before .before .before .before .before .before .before .before .before .before in
+    let r = c .before .before .before .before .before .before .before .before in
+    let t = r .before .before .before .before .before .before in
+    let j = r .join-all in
+    let f = t .before .before .before .before .fill-range in
+    let s = t .before .before .before .before .before .before .before .before .before in
     done-turns (s .args .numbers .now) (s .args .sizes .now) (s .args .bits .now) (s .pre) (f .last .0) (f .ensures) (s .args .threshold)
-    (ap (λ z. lt z (s .args .threshold)) (sym zero-double) ∙ c .before .before .before .before .before .before .before .before .before .before .before .before .if2 .taken)
-    (c .before .before .before .before .before .before .before .before .before .before .before .before .before .if1 .left)
+    (ap (λ z. lt z (s .args .threshold)) (sym zero-double) ∙ t .if2 .taken)
+    (t .before .if1 .left)
     (j .last .0) (j .last .1 .0) (j .last .1 .1 .0) (j .kept .0) (j .ensures)
 
 same-length-5 : tie.Need-same-length-5
@@ -75,8 +92,11 @@ merge-in-place-spec =
     fill-range-requires
     same-length
     returns
+    add-blocks
     array-borrow-prefix-there
     slice-aggregate-join-all
+    array-borrow-prefix-heads
+    slice-aggregate-join-all-2
     join-all-requires
     same-length-2
     same-length-3

@@ -16,8 +16,8 @@ use Rattle.merge.proofs.search.Best.or_target.Tie as tie
 row-requires : tie.Need-row-requires
 row-requires c κs = search needs
 
-is-nearer-requires : tie.Need-is-nearer-requires
-is-nearer-requires c κs = search needs
+rules-out-requires : tie.Need-rules-out-requires
+rules-out-requires c κs = search needs
 
 returns : tie.Need-returns
 unfolding targetAt
@@ -28,7 +28,7 @@ returns c =
     stays (a .self) (targetAt (a .sizes .now) (a .bits .now) (a .wanted) (a .i))
     (far-away (a .self) (targetAt (a .sizes .now) (a .bits .now) (a .wanted) (a .i)) (firstOnes (a .wanted) (r .result))
     (subst (λ w. firstOnes (a .wanted) (r .result) ≤ differing (a .wanted) w) (r .ensures) few)
-    (sym (c .before .is-nearer .ensures) ∙ c .if1 .taken)) true
+    (sym (c .before .rules-out .ensures) ∙ c .if1 .taken)) true
 
 size-at-requires : tie.Need-size-at-requires
 size-at-requires c κs = search needs
@@ -66,7 +66,7 @@ or-target-spec =
     tie.close
     (tie.spec
     row-requires
-    is-nearer-requires
+    rules-out-requires
     returns
     size-at-requires
     symmetric-difference-count-requires

@@ -2,8 +2,8 @@
 use borrow.Author.Tests.{not-true, not-false}
 use Rattle.merge.specs.Search.{nearerThan}
 use borrow.Author.Needs.{needs}
-use Rattle.merge.proofs.search.Best.is_nearer.Statement.{statement}
-use Rattle.merge.proofs.search.Best.is_nearer.Tie as tie
+use Rattle.merge.proofs.search.Best.rules_out.Statement.{statement}
+use Rattle.merge.proofs.search.Best.rules_out.Tie as tie
 
 returns : tie.Need-returns
 unfolding nearerThan
@@ -19,5 +19,5 @@ returns-2 : tie.Need-returns-2
 unfolding nearerThan
 returns-2 c = let s = c .before .before .before .before .before .before in rw (not-false (s .args .self .found) (c .before .before .before .before .if1 .left))
 
-pub is-nearer-spec : {M : Type 1} → statement M
-is-nearer-spec = tie.close (tie.spec returns array-read-result array-read-result-2 returns-2)
+pub rules-out-spec : {M : Type 1} → statement M
+rules-out-spec = tie.close (tie.spec returns array-read-result array-read-result-2 returns-2)
