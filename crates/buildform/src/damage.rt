@@ -9,6 +9,7 @@ ghost use Prim.Native.Nat.{_<_, _≤_};
 
 // What stands for all tables of groups, and for a word that names no table.
 const GROUPS: usize = 20;
+
 const NO_TABLE: usize = 21;
 
 // offsets O0 .. ON
