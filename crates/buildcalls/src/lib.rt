@@ -167,7 +167,7 @@ pub fn answer(
     let f = lent.size_of;
     let g = lent.bits_of;
     let h = lent.scratch;
-    let answer = chunks::split(
+    let answer = plainsplit::split(
         counts.n,
         counts.g,
         counts.e,

@@ -7,8 +7,10 @@ use textform::words;
 use textform::words::Span;
 ghost use Prim.Native.Nat.{_<_, _≤_};
 
-// What stands for a word that names no table.
-const NO_TABLE: usize = 20;
+// What stands for all tables of groups, and for a word that names no table.
+const GROUPS: usize = 20;
+
+const NO_TABLE: usize = 21;
 
 // offsets O0 .. ON
 fn read_offsets(text: &[u8], at: usize, n: usize, shorts: &mut [u32; 3328]) -> usize
@@ -23,7 +25,7 @@ fn read_offsets(text: &[u8], at: usize, n: usize, shorts: &mut [u32; 3328]) -> u
     place
 }
 
-// The place of a table's length; the first of nine for the groups.
+// The place of a table's length.
 fn module_table(word: &[u8]) -> usize {
     if check::same(word, b"flags") {
         return 0;
@@ -59,56 +61,105 @@ fn other_table(word: &[u8]) -> usize {
     if check::same(word, b"dep_next") {
         return 9;
     }
-    if check::same(word, b"groups") {
-        return 10;
-    }
     if check::same(word, b"answers") {
         return 19;
+    }
+    if check::same(word, b"groups") {
+        return GROUPS;
     }
     NO_TABLE
 }
 
+fn limit_table(word: &[u8]) -> usize {
+    if check::same(word, b"given") {
+        return 10;
+    }
+    if check::same(word, b"min_size") {
+        return 11;
+    }
+    if check::same(word, b"max_size") {
+        return 12;
+    }
+    if check::same(word, b"min_module_size") {
+        return 13;
+    }
+    if check::same(word, b"max_module_size") {
+        return 14;
+    }
+    NO_TABLE
+}
+
+fn group_table(word: &[u8]) -> usize {
+    if check::same(word, b"min_share_count") {
+        return 15;
+    }
+    if check::same(word, b"mask") {
+        return 16;
+    }
+    if check::same(word, b"priority") {
+        return 17;
+    }
+    if check::same(word, b"threshold") {
+        return 18;
+    }
+    limit_table(word)
+}
+
 fn table_of(word: &[u8]) -> usize {
     let table = module_table(word);
-    if table == NO_TABLE {
-        return other_table(word);
+    if table != NO_TABLE {
+        return table;
     }
-    table
+    let other = other_table(word);
+    if other != NO_TABLE {
+        return other;
+    }
+    group_table(word)
+}
+
+// The length of one table. One that is not as long as the counts imply any more can't be changed again, since a part that was cut off stands
+// in its row still.
+fn set_length(table: usize, length: usize, implied: &[usize; 20], all: &mut [usize; 20]) -> bool
+    requires { ⌜ table < 20 ⌝ }
+{
+    if all[table] != implied[table] {
+        return false;
+    }
+    all[table] = length;
+    true
 }
 
 // All tables of groups get the same length.
-fn set_groups(length: usize, all: &mut [usize; 20]) {
+fn set_groups(length: usize, implied: &[usize; 20], all: &mut [usize; 20]) -> bool {
     let mut i = 10;
     while i < 19 {
-        all[i] = length;
+        if !set_length(i, length, implied, all) {
+            return false;
+        }
         i = i + 1;
     }
+    true
 }
 
-fn set_length(table: usize, length: usize, all: &mut [usize; 20])
-    requires { ⌜ table < 20 ⌝ }
-{
-    if table == lengths::FIRST_OF_GROUPS {
-        set_groups(length, all);
-        return;
+fn set_lengths(table: usize, length: usize, implied: &[usize; 20], all: &mut [usize; 20]) -> bool {
+    if table == GROUPS {
+        return set_groups(length, implied, all);
     }
-    all[table] = length;
+    if table < 20 {
+        return set_length(table, length, implied, all);
+    }
+    false
 }
 
-// len TABLE LENGTH. A table that is not as long as the counts imply any more can't be changed again, since a part that was cut off stands in
-// the row still.
+// len TABLE LENGTH
 fn read_length(text: &[u8], at: usize, implied: &[usize; 20], all: &mut [usize; 20]) -> usize {
     let word = words::word(text, at);
     let table = table_of(words::part(text, word));
-    if NO_TABLE <= table {
-        return words::NOWHERE;
-    }
-    if all[table] != implied[table] {
-        return words::NOWHERE;
-    }
     let length = numbers::decimal_within(text, word.to, lengths::room(table));
-    set_length(table, length.value as usize, all);
-    length.at
+    if set_lengths(table, length.value as usize, implied, all) {
+        return length.at;
+    }
+    words::NOWHERE
 }
 
 // The place of a count; past all of them for any other word.
@@ -165,6 +216,15 @@ fn set_records(length: usize, areas: &mut [usize; 8])
     areas[6] = 4 * length;
 }
 
+// records FIRST_OF GROUP_OF NAME_OF SIZE_OF BITS_OF, the last in words
+fn read_records(text: &[u8], at: usize, areas: &mut [usize; 8]) -> usize {
+    let after_first_of = read_area(text, at, 128, 2, areas);
+    let after_group_of = read_area(text, after_first_of, 128, 3, areas);
+    let after_name_of = read_area(text, after_group_of, 128, 4, areas);
+    let after_size_of = read_area(text, after_name_of, 128, 5, areas);
+    read_area(text, after_size_of, 512, 6, areas)
+}
+
 // One line, of which the first word has been read.
 fn read_line(
     text: &[u8],
@@ -191,6 +251,9 @@ fn read_line(
     }
     if check::same(word, b"areas") {
         return read_areas(text, at, areas);
+    }
+    if check::same(word, b"records") {
+        return read_records(text, at, areas);
     }
     words::NOWHERE
 }

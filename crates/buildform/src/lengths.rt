@@ -3,11 +3,6 @@ ghost use Prim.Native.Nat.{_≤_};
 
 // The places of the lengths: flags, sizes, orders, shares, tags, bits (in words), offsets, first, dependency, next, the nine tables of groups,
 // answers. An area's place is that of the call: chunk_of, next_of, first_of, group_of, name_of, size_of, bits_of (in words), scratch.
-pub const BITS: usize = 5;
-
-pub const FIRST_OF_GROUPS: usize = 10;
-
-pub const ANSWERS: usize = 19;
 
 // The lengths that the counts imply, where all groups together have so many answers.
 pub fn implied(n: usize, g: usize, d: usize, answers: usize) -> [usize; 20]

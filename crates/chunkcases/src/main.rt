@@ -57,7 +57,7 @@ fn run_case(
     bits_of: &mut [u64],
     scratch: &mut [u32],
 ) -> ChunksAnswer {
-    chunks::split(
+    plainsplit::split(
         4,
         2,
         1,

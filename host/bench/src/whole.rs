@@ -66,7 +66,7 @@ impl Case for Whole<'_> {
     }
 
     fn pass(&mut self) -> Micros {
-        let tables = raw_tables(&self.library.handed, &self.library.groups);
+        let tables = raw_tables(&self.library.handed, self.library.groups.as_tables());
         pass::timed(PASSES, || pass::build(black_box(&tables)))
     }
 
@@ -120,13 +120,14 @@ impl Library {
     /// Makes a build ready.
     pub fn new(chunks: &Chunks) -> Self {
         let handed = tables::of_chunks(chunks);
-        let [chunk_of, next_of, records, scratch] = handed.areas;
+        let [chunk_of, next_of, first_of, group_of, name_of, size_of, bits_of, scratch] =
+            handed.areas;
         Self {
             groups: handed.groups.iter().map(group).collect(),
             handed,
-            words: [chunk_of, next_of, records, records, records].map(|length| vec![7; length]),
-            sizes: vec![7.0; records],
-            bits: vec![7; 4 * records],
+            words: [chunk_of, next_of, first_of, group_of, name_of].map(|length| vec![7; length]),
+            sizes: vec![7.0; size_of],
+            bits: vec![7; bits_of],
             scratch: vec![7; scratch],
             count: 0,
         }
@@ -134,7 +135,7 @@ impl Library {
 
     /// Calls the library once.
     pub fn run(&mut self) -> Micros {
-        let tables = raw_tables(&self.handed, &self.groups);
+        let tables = raw_tables(&self.handed, self.groups.as_tables());
         let [chunk_of, next_of, first_of, group_of, name_of] = &mut self.words;
         let areas = ChunksAreas {
             chunk_of,

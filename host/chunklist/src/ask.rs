@@ -6,6 +6,7 @@ mod capture;
 pub mod chunks;
 mod cut;
 mod filter;
+mod fitted_groups;
 mod merge;
 mod similarity;
 

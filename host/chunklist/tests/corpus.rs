@@ -1,5 +1,5 @@
 //! The library gives the recorded answers again: the crate's on leaves and whole builds, document
-//! 01's refusals.
+//! 01's refusals and limits.
 
 use std::{fs, path::PathBuf};
 
@@ -42,6 +42,12 @@ fn damaged_calls_are_refused_by_document_01() {
     let same = replay("refusals");
     assert!(same >= 375, "{same} replayed");
     println!("{same} refusals replayed");
+}
+
+#[test]
+fn builds_at_the_limits_are_answered_by_document_01() {
+    let same = replay("limits");
+    assert!(same >= 211, "{same} replayed");
 }
 
 #[test]

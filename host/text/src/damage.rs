@@ -14,12 +14,23 @@ pub enum Table {
     First,
     DepModule,
     DepNext,
+    /// All tables of groups.
     Groups,
+    /// Which options a group has, and whether it is entries-aware.
+    Given,
+    MinSize,
+    MaxSize,
+    MinModuleSize,
+    MaxModuleSize,
+    MinShareCount,
+    Mask,
+    Priority,
+    Threshold,
     Answers,
 }
 
 impl Table {
-    /// All tables with their words.
+    /// The tables with their words, those of groups as one.
     pub const ALL: [(Self, &'static str); 12] = [
         (Self::Flags, "flags"),
         (Self::Sizes, "sizes"),
@@ -35,9 +46,27 @@ impl Table {
         (Self::Answers, "answers"),
     ];
 
+    /// The tables of groups with their words, in the order of the call.
+    pub const OF_GROUPS: [(Self, &'static str); 9] = [
+        (Self::Given, "given"),
+        (Self::MinSize, "min_size"),
+        (Self::MaxSize, "max_size"),
+        (Self::MinModuleSize, "min_module_size"),
+        (Self::MaxModuleSize, "max_module_size"),
+        (Self::MinShareCount, "min_share_count"),
+        (Self::Mask, "mask"),
+        (Self::Priority, "priority"),
+        (Self::Threshold, "threshold"),
+    ];
+
     /// The word that stands for it in a text.
     pub fn word(self) -> &'static str {
-        Self::ALL.into_iter().find(|(table, _)| *table == self).map_or("", |(_, word)| word)
+        Self::named().find(|(table, _)| *table == self).map_or("", |(_, word)| word)
+    }
+
+    /// Every table that a text can name, with its word.
+    pub fn named() -> impl Iterator<Item = (Self, &'static str)> {
+        Self::ALL.into_iter().chain(Self::OF_GROUPS)
     }
 }
 
@@ -78,6 +107,9 @@ pub struct Damage {
     pub counts: Vec<(Count, u64)>,
     /// Lengths of the lent areas in the order of the call; without them there is room to spare.
     pub areas: Option<Vec<usize>>,
+    /// Lengths of the areas of chunk records, where those of a build are told apart: first module,
+    /// group, name, size, and bits in words.
+    pub records: Option<Vec<usize>>,
 }
 
 impl Damage {
@@ -90,6 +122,12 @@ impl Damage {
     pub fn count(&self, which: Count, written: u64) -> u64 {
         let forced = self.counts.iter().rev().find(|(count, _)| *count == which);
         forced.map_or(written, |(_, value)| *value)
+    }
+
+    /// The length of a table: the forced one, or the one that it has.
+    pub fn length(&self, which: Table, written: usize) -> usize {
+        let forced = self.lengths.iter().rev().find(|(table, _)| *table == which);
+        forced.map_or(written, |(_, length)| *length)
     }
 
     /// Forces the length of one table, if it is damaged.

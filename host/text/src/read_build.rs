@@ -87,7 +87,7 @@ fn group(words: &mut Words<'_>) -> Result<Group, TextError> {
 }
 
 /// The words that a line after the answers may begin with, in their fixed order.
-const STEPS: [&str; 5] = ["offsets", "len", "count", "areas", "end"];
+const STEPS: [&str; 6] = ["offsets", "len", "count", "areas", "records", "end"];
 
 /// The lines up to `end`.
 fn damage(lines: &mut Lines<'_>, modules: usize) -> Result<Damage, TextError> {
@@ -103,6 +103,7 @@ fn damage(lines: &mut Lines<'_>, modules: usize) -> Result<Damage, TextError> {
             "len" => damage.lengths.push(length_line(&mut words, &all_tables())?),
             "count" => damage.counts.push(count_line(&mut words, &all_counts())?),
             "areas" => damage.areas = Some(words.times(4, |words| words.area("LENGTH"))?),
+            "records" => damage.records = Some(words.times(5, |words| words.area("LENGTH"))?),
             _ => {
                 words.end()?;
                 return Ok(damage);
@@ -125,7 +126,7 @@ fn step(words: &mut Words<'_>, stage: usize) -> Result<usize, TextError> {
 }
 
 fn all_tables() -> Vec<Table> {
-    Table::ALL.into_iter().map(|(table, _)| table).collect()
+    Table::named().map(|(table, _)| table).collect()
 }
 
 fn all_counts() -> Vec<Count> {

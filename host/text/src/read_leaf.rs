@@ -179,8 +179,7 @@ fn with_line(
 /// `TABLE LENGTH`, one of these tables.
 pub fn length_line(words: &mut Words<'_>, tables: &[Table]) -> Result<(Table, usize), TextError> {
     let word = words.word("TABLE")?;
-    let table =
-        Table::ALL.into_iter().find(|(table, name)| *name == word && tables.contains(table));
+    let table = Table::named().find(|(table, name)| *name == word && tables.contains(table));
     match table {
         Some((table, _)) => Ok((table, words.length("LENGTH")?)),
         None => words.error(format!("the call has no table `{word}`")),

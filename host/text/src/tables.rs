@@ -74,10 +74,13 @@ pub struct BuildTables {
     pub dep_module: Vec<u32>,
     pub dep_next: Vec<u32>,
     pub groups: Vec<Group>,
+    /// The length of each table of groups, in the order of `Table::OF_GROUPS`.
+    pub group_lengths: [usize; 9],
     /// Group by group, one for each module.
     pub answers: Vec<u32>,
-    /// Lengths of the areas: chunk of each module, next of each module, chunk records, scratch.
-    pub areas: [usize; 4],
+    /// Lengths of the areas in the order of the call: chunk of each module, next of each module, the
+    /// five of chunk records (bits in words), scratch.
+    pub areas: [usize; 8],
 }
 
 /// The tables of a cut.
@@ -149,13 +152,17 @@ pub fn of_chunks(chunks: &Chunks) -> BuildTables {
     damage.fit(Table::DepModule, &mut tables.dep_module);
     damage.fit(Table::DepNext, &mut tables.dep_next);
     damage.fit(Table::Groups, &mut tables.groups);
+    tables.group_lengths =
+        Table::OF_GROUPS.map(|(table, _)| damage.length(table, tables.groups.len()));
     damage.fit(Table::Answers, &mut tables.answers);
     tables.n = damage.count(Count::N, tables.n);
     tables.g = damage.count(Count::G, tables.g);
     tables.e = damage.count(Count::E, tables.e);
     tables.k = damage.count(Count::K, tables.k);
     tables.d = damage.count(Count::D, tables.d);
-    tables.areas = lengths(damage.areas.as_deref(), tables.areas);
+    let [chunk_of, next_of, first_of, .., scratch] = tables.areas;
+    let areas = lengths(damage.areas.as_deref(), [chunk_of, next_of, first_of, scratch]);
+    tables.areas = areas_of(areas, damage.records.as_deref());
     tables
 }
 
@@ -185,8 +192,9 @@ fn undamaged(build: &Build) -> BuildTables {
         dep_module: from_one(records().map(|record| record.module)),
         dep_next: from_one(records().map(|record| record.next)),
         groups: build.groups.clone(),
+        group_lengths: [build.groups.len(); 9],
         answers: build.answers.concat(),
-        areas: [spare, spare, spare, scratch_need(build) + SPARE],
+        areas: areas_of([spare, spare, spare, scratch_need(build) + SPARE], None),
     }
 }
 
@@ -214,6 +222,14 @@ fn slice_of<'a>(ids: impl Iterator<Item = &'a [u8]>) -> (Vec<u8>, Vec<u32>) {
 /// A table of records, with record 0 before the others.
 fn from_one(numbers: impl Iterator<Item = u32>) -> Vec<u32> {
     std::iter::once(RECORD_ZERO).chain(numbers).collect()
+}
+
+/// The areas of a build from the lengths for modules (twice), chunk records and scratch; those of
+/// the records may be told apart.
+fn areas_of([chunk_of, next_of, records, scratch]: [usize; 4], apart: Option<&[usize]>) -> [usize; 8] {
+    let [first, group, name, size, bits] =
+        lengths(apart, [records, records, records, records, 4 * records]);
+    [chunk_of, next_of, first, group, name, size, bits, scratch]
 }
 
 /// The lengths that a case gives, or these.

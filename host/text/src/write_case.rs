@@ -173,5 +173,10 @@ fn damage_lines(f: &mut Formatter<'_>, damage: &Damage, before: &str) -> Result 
         each(f, areas)?;
         writeln!(f)?;
     }
+    if let Some(records) = &damage.records {
+        write!(f, "{before}records")?;
+        each(f, records)?;
+        writeln!(f)?;
+    }
     Ok(())
 }

@@ -26,8 +26,10 @@ a 2 0
 offsets 0 1 3
 len flags 0
 len answers 3
+len threshold 0
 count g 65
 areas 2 2 2 70
+records 2 1 2 2 7
 end
 ";
 
@@ -78,5 +80,6 @@ fn damage_changes_the_tables_and_not_the_text() {
     assert_eq!(tables.answers, [2, 0, 0]);
     assert_eq!(tables.offsets, [0, 1, 3]);
     assert_eq!(tables.dep_module, [u32::MAX, 1]);
-    assert_eq!(tables.areas, [2, 2, 2, 70]);
+    assert_eq!(tables.group_lengths, [1, 1, 1, 1, 1, 1, 1, 1, 0]);
+    assert_eq!(tables.areas, [2, 2, 2, 1, 2, 2, 7, 70]);
 }

@@ -2,11 +2,11 @@
 
 use gentropi::{
     GroupBuf,
-    raw::{self, ChunksAreas, ChunksTables},
+    raw::{self, ChunksAreas, ChunksTables, GroupTables},
 };
 use text::{Answer, Chunk, ChunkList, Chunks, Group, Options, tables, tables::BuildTables};
 
-use super::{Asked, count};
+use super::{Asked, count, fitted_groups::FittedGroups};
 use crate::{Lent, Pattern};
 
 /// What came of a whole build, and the areas that were lent to the call.
@@ -22,7 +22,7 @@ pub struct AskedBuild {
 /// them.
 pub struct ReadyBuild {
     handed: BuildTables,
-    groups: GroupBuf,
+    groups: FittedGroups,
     areas: BuildAreas,
 }
 
@@ -30,14 +30,15 @@ impl ReadyBuild {
     /// Lays a build out.
     pub fn new(chunks: &Chunks) -> Self {
         let handed = tables::of_chunks(chunks);
-        let groups = handed.groups.iter().map(group).collect();
+        let groups: GroupBuf = handed.groups.iter().map(group).collect();
+        let groups = FittedGroups::new(&groups.as_tables(), &chunks.damage);
         let areas = BuildAreas::new(handed.areas);
         Self { handed, groups, areas }
     }
 
     /// Makes the call and does nothing else. Answers 0 or the number of the refusal.
     pub fn call(&mut self) -> u32 {
-        raw::chunks(&raw_tables(&self.handed, &self.groups), self.areas.lend())
+        raw::chunks(&raw_tables(&self.handed, self.groups.as_tables()), self.areas.lend())
     }
 }
 
@@ -74,7 +75,7 @@ pub fn ask_build(chunks: &Chunks) -> AskedBuild {
 }
 
 /// The tables as the library takes them.
-pub fn raw_tables<'a>(handed: &'a BuildTables, groups: &'a GroupBuf) -> ChunksTables<'a> {
+pub fn raw_tables<'a>(handed: &'a BuildTables, groups: GroupTables<'a>) -> ChunksTables<'a> {
     ChunksTables {
         n: count(handed.n),
         g: count(handed.g),
@@ -93,7 +94,7 @@ pub fn raw_tables<'a>(handed: &'a BuildTables, groups: &'a GroupBuf) -> ChunksTa
         dependency: &handed.dep_module,
         next: &handed.dep_next,
         options: options(&handed.options).numbers(),
-        groups: groups.as_tables(),
+        groups,
         answers: &handed.answers,
         on_entry: count(handed.count_on_entry),
     }
@@ -122,17 +123,17 @@ pub fn group(group: &Group) -> gentropi::Group {
 }
 
 impl BuildAreas {
-    /// Areas of so many items for modules (twice), chunk records, and scratch.
-    fn new(lengths: [usize; 4]) -> Self {
-        let [chunk_of, next_of, records, scratch] = lengths;
+    /// Areas of so many items, in the order of the call.
+    fn new(lengths: [usize; 8]) -> Self {
+        let [chunk_of, next_of, first_of, group_of, name_of, size_of, bits_of, scratch] = lengths;
         Self {
             chunk_of: Lent::new("chunk_of", chunk_of),
             next_of: Lent::new("next_of", next_of),
-            first_of: Lent::new("first_of", records),
-            group_of: Lent::new("group_of", records),
-            name_of: Lent::new("name_of", records),
-            size_of: Lent::new("size_of", records),
-            bits_of: Lent::new("bits_of", 4 * records),
+            first_of: Lent::new("first_of", first_of),
+            group_of: Lent::new("group_of", group_of),
+            name_of: Lent::new("name_of", name_of),
+            size_of: Lent::new("size_of", size_of),
+            bits_of: Lent::new("bits_of", bits_of),
             scratch: Lent::new("scratch", scratch),
             count: Lent::new("count", 1),
         }

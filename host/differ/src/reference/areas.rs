@@ -53,8 +53,7 @@ impl Words for BuildAreas {
 
 /// The areas after a call. A refused one touches none of them.
 pub fn after(tables: &BuildTables, outcome: Result<&ChunkList, u32>, rules: Rules) -> Areas {
-    let [chunk_of, next_of, records, scratch] = tables.areas;
-    let lengths = [chunk_of, next_of, records, records, records, records, 4 * records];
+    let [lengths @ .., scratch] = tables.areas;
     let mut areas = Areas {
         written: lengths.map(|length| (0..length).map(u64::at).collect()).to_vec(),
         scratch: Scratch { length: scratch, zeros: 0 },

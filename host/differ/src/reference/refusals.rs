@@ -126,7 +126,7 @@ pub fn chunks(tables: &BuildTables, rules: Rules) -> Option<u32> {
             (12, &|| short_output(tables, rules)),
             (13, &|| {
                 let spare = u64::from(rules.has(F::ShortScratch));
-                (tables.areas[3] as u64) + spare < scratch_need(tables, rules)
+                (tables.areas[7] as u64) + spare < scratch_need(tables, rules)
             }),
         ],
     )
@@ -157,7 +157,14 @@ fn bad_lengths(tables: &BuildTables, rules: Rules) -> bool {
         || differs(Table::DepModule, tables.dep_module.len(), d + 1)
         || differs(Table::DepNext, tables.dep_next.len(), d + 1)
         || differs(Table::Groups, tables.groups.len(), *g)
+        || bad_group_length(tables)
         || differs(Table::Answers, tables.answers.len(), g * n)
+}
+
+/// 2, of a table of groups that isn't as long as the others.
+fn bad_group_length(tables: &BuildTables) -> bool {
+    let apart = |length: &&usize| **length != tables.groups.len();
+    tables.group_lengths.iter().filter(apart).any(|length| *length as u64 != tables.g)
 }
 
 fn lengths_differ(lengths: &[usize], wanted: u64) -> bool {
@@ -309,9 +316,14 @@ fn most_on_entry(rules: Rules) -> u64 {
 
 /// 12, of a build.
 fn short_output(tables: &BuildTables, rules: Rules) -> bool {
-    let faults = [F::ShortChunkOf, F::ShortNextOf, F::ShortRecords];
-    let short = |(length, fault)| length as u64 + u64::from(rules.has(fault)) < tables.n;
-    tables.areas.into_iter().zip(faults).any(short)
+    let spare = |fault| u64::from(rules.has(fault));
+    let [chunk_of, next_of, first, group, name, size, bits, _] =
+        tables.areas.map(|length| length as u64);
+    let records = spare(F::ShortRecords);
+    chunk_of + spare(F::ShortChunkOf) < tables.n
+        || next_of + spare(F::ShortNextOf) < tables.n
+        || [first, group, name, size].into_iter().any(|length| length + records < tables.n)
+        || bits + 4 * records < 4 * tables.n
 }
 
 /// 13: P×N + 32×N words.

@@ -5,19 +5,19 @@ use Rattle.buildform.proofs.damage.set_groups.Statement.{statement}
 use Rattle.buildform.proofs.damage.set_groups.Tie as tie
 
 abbrev Inv-loop : tie.InvT-loop
-Inv-loop length all₀ i₀ all i = Unit {0}
+Inv-loop length implied all₀ i₀ all i = Unit {0}
 
 abbrev μ-loop : tie.MeasureT-loop
-μ-loop length all₀ i₀ all i = 19 - i
+μ-loop length implied all₀ i₀ all i = 19 - i
 
 loop-holds : tie.Need-loop-holds Inv-loop μ-loop
 loop-holds c = search needs
 
-mul-all : tie.Need-mul-all Inv-loop μ-loop
-mul-all c = search needs
+set-length-requires : tie.Need-set-length-requires Inv-loop μ-loop
+set-length-requires c κs = search needs
 
-element-write-all : tie.Need-element-write-all Inv-loop μ-loop
-element-write-all c = search needs
+returns : tie.Need-returns Inv-loop μ-loop
+returns c = search needs
 
 add-i : tie.Need-add-i Inv-loop μ-loop
 add-i c = search needs
@@ -28,8 +28,8 @@ loop-less c = search needs
 loop-again : tie.Need-loop-again Inv-loop μ-loop
 loop-again c = search needs
 
-returns : tie.Need-returns Inv-loop μ-loop
-returns c = search needs
+returns-2 : tie.Need-returns-2 Inv-loop μ-loop
+returns-2 c = search needs
 
 pub set-groups-spec : {M : Type 1} → statement M
 set-groups-spec =
@@ -38,9 +38,9 @@ set-groups-spec =
     Inv-loop
     μ-loop
     loop-holds
-    mul-all
-    element-write-all
+    set-length-requires
+    returns
     add-i
     loop-less
     loop-again
-    returns)
+    returns-2)
