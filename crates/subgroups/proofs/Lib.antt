@@ -2,6 +2,7 @@
 pub mod Numbers
 pub mod OneMore
 pub mod Entering
+pub mod Chains
 pub mod KindSizes
 pub mod Counting
 pub mod Turning

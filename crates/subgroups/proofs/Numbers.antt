@@ -1,8 +1,8 @@
 -- The number of a kind, looked for from the first kind on.
-use Prim.Native.Nat.{ℕ, suc, _+_, _-_, _<_, _≤_}
+use Prim.Native.Nat.{ℕ, zero, suc, _+_, _-_, _<_, _≤_}
 use mathlib.Core.Bool.{true, false, cond}
 use mathlib.Core.List.{List, map}
-use mathlib.Core.Path.{_≡_, sym, ap, _∙_}
+use mathlib.Core.Path.{_≡_, refl, sym, ap, _∙_}
 use native.Mathlib.Omega.{arith}
 use Rattle.lists.specs.Range.{range}
 use Rattle.bitset.specs.Entries.{rowOf}
@@ -38,3 +38,19 @@ module _ (table : List ℕ) (count : ℕ) (x : BitSet) where
   pub number-none : (i : ℕ) → count ≤ i → from i ≡ i
   unfolding from kindNumber range
   number-none i h = let e : count - i ≡ 0 = omega arith in ap (λ (n : ℕ). kindNumber i (map (rowOf table) (range i n)) x) e
+
+  -- ---- the number, where each row is known to have the bits or not
+
+  later : (k : ℕ) → k ≤ count → ((j : ℕ) → j < k → sameBits (rowOf table j) x ≡ false) → from 0 ≡ from k
+  later zero h none = refl
+  later (suc k) h none =
+      later k (omega arith) (λ j l. none j (omega arith))
+      ∙ number-later k (omega arith) (none k (omega arith))
+      ∙ ap from (omega arith)
+
+  pub number-at : (k : ℕ) → k < count → ((j : ℕ) → j < k → sameBits (rowOf table j) x ≡ false) → sameBits (rowOf table k) x ≡ true
+      → kindNumber 0 (rowsOf table count) x ≡ k
+  number-at k h none e = number-start ∙ later k (omega arith) none ∙ number-here k h e
+
+  pub number-nowhere : ((j : ℕ) → j < count → sameBits (rowOf table j) x ≡ false) → kindNumber 0 (rowsOf table count) x ≡ count
+  number-nowhere none = number-start ∙ later count (omega arith) none ∙ number-none count (omega arith)

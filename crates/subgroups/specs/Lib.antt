@@ -1,5 +1,6 @@
 -- Step 2 in tables: the kinds of entry bits of an entries-aware set, their merge, and the set listed by the subgroup that each module ends in.
 pub mod Kinds
 pub mod Finding
+pub mod Buckets
 pub mod Merged
 pub mod Items

@@ -8,8 +8,8 @@ ghost use lib.ListN.{length};
 ghost use Rattle.subgroups.specs.Finding.{Members, KindRoom};
 ghost use Rattle.subgroups.specs.Merged.{Processed};
 
-// Finds the kinds of a set, merges them, and lists the positions by the subgroup that each ends in. The sizes are not read after the merge, so that
-// their table is the spare one of the sort.
+// Finds the kinds of a set, merges them, and lists the positions by the subgroup that each ends in. Before the merge the table of
+// final numbers holds the links between kinds, and after it that of sizes is the spare one of the sort.
 pub fn run_stages(
     bits: &[u64],
     sizes: &[u64],
@@ -26,7 +26,7 @@ pub fn run_stages(
     ensures { λ _. ⌜ Processed (now (bits .entry)) (now (sizes .entry)) (now (set .entry)) threshold
         (now («kind_bits» .exit)) (now (order .exit)) ⌝ }
 {
-    let count = find_kinds(bits, sizes, set, kind_of, kind_sizes, kind_bits);
+    let count = find_kinds(bits, sizes, set, kind_of, kind_sizes, kind_bits, finals);
     merge_in_place(
         &mut finals[..count],
         &mut kind_sizes[..count],

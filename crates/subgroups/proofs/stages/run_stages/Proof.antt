@@ -13,7 +13,7 @@ use Rattle.subgroups.proofs.stages.run_stages.Tie as tie
 -- ---- what is known once the kinds are found
 
 abbrev start : tie.After-find-kinds → tie.Start
-start k = k .before .before .before .before .before .before .before .before .before .before .before .before
+start k = k .before .before .before .before .before .before .before .before .before .before .before .before .before
 
 abbrev kind-of : tie.After-find-kinds → List ℕ
 kind-of k = k .find-kinds .last .1 .1 .1 .0
@@ -25,7 +25,7 @@ abbrev kind-bits : tie.After-find-kinds → List ℕ
 kind-bits k = k .find-kinds .last .1 .1 .1 .1 .1 .0
 
 abbrev finals : tie.After-find-kinds → List ℕ
-finals k = start k .args .finals .now
+finals k = k .find-kinds .last .1 .1 .1 .1 .1 .1 .0
 
 at-most : (k : tie.After-find-kinds) → k .find-kinds .result ≤ length (start k .args .set .now)
 at-most k =
@@ -34,7 +34,7 @@ at-most k =
     (k .find-kinds .ensures)
 
 finals-room : (k : tie.After-find-kinds) → k .find-kinds .result ≤ length (finals k)
-finals-room k = omega (arith, at-most k, start k .pre .2)
+finals-room k = omega (arith, at-most k, start k .pre .2, k .find-kinds .kept .1 .1 .1 .1 .1 .1 .0)
 
 sizes-room : (k : tie.After-find-kinds) → k .find-kinds .result ≤ length (kind-sizes k)
 sizes-room k = omega (arith, at-most k, start k .pre .1 .sizes, k .find-kinds .kept .1 .1 .1 .1 .0)
@@ -49,7 +49,7 @@ numbers-long k = length-take-le (k .find-kinds .result) (finals k) (finals-room 
 -- ---- what is known once they are merged
 
 abbrev found : tie.After-merge-in-place → tie.After-find-kinds
-found m = m .before .before .before .before .before .before .before .before .before .before
+found m = m .before .before .before .before .before .before .before .before .before .before .before .before
 
 merged-long : (m : tie.After-merge-in-place) → length (m .merge-in-place .last .0) ≡ found m .find-kinds .result
 merged-long m = m .merge-in-place .kept .0 ∙ numbers-long (found m)
@@ -68,33 +68,35 @@ find-kinds-requires : tie.Need-find-kinds-requires
 find-kinds-requires c κs = search needs
 
 slice-relend-prefix-merge-in-place : tie.Need-slice-relend-prefix-merge-in-place
-slice-relend-prefix-merge-in-place c = finals-room (c .before .before .before .before .before .before)
+slice-relend-prefix-merge-in-place c = finals-room (c .before .before .before .before .before .before .before .before)
 
 slice-aggregate-merge-in-place : tie.Need-slice-aggregate-merge-in-place
-slice-aggregate-merge-in-place c = sym (numbers-long (c .before .before .before .before .before .before .before))
+slice-aggregate-merge-in-place c = sym (numbers-long (c .before .before .before .before .before .before .before .before .before))
 
 slice-relend-prefix-merge-in-place-2 : tie.Need-slice-relend-prefix-merge-in-place-2
-slice-relend-prefix-merge-in-place-2 c = sizes-room (c .before .before .before .before .before .before .before)
+slice-relend-prefix-merge-in-place-2 c = sizes-room (c .before .before .before .before .before .before .before .before .before)
 
 slice-aggregate-merge-in-place-2 : tie.Need-slice-aggregate-merge-in-place-2
 slice-aggregate-merge-in-place-2 c =
-    let k = c .before .before .before .before .before .before .before .before in
+    let k = c .before .before .before .before .before .before .before .before .before .before in
     sym (length-take-le (k .find-kinds .result) (kind-sizes k) (sizes-room k))
 
 mul-merge-in-place : tie.Need-mul-merge-in-place
-mul-merge-in-place c = let k = c .before .before .before .before .before .before .before .before in omega (arith, at-most k, start k .pre .0 .count)
+mul-merge-in-place c =
+    let k = c .before .before .before .before .before .before .before .before .before .before in
+    omega (arith, at-most k, start k .pre .0 .count)
 
 slice-relend-prefix-merge-in-place-3 : tie.Need-slice-relend-prefix-merge-in-place-3
-slice-relend-prefix-merge-in-place-3 c = bits-room (c .before .before .before .before .before .before .before .before)
+slice-relend-prefix-merge-in-place-3 c = bits-room (c .before .before .before .before .before .before .before .before .before .before)
 
 slice-aggregate-merge-in-place-3 : tie.Need-slice-aggregate-merge-in-place-3
 slice-aggregate-merge-in-place-3 c =
-    let k = c .before .before .before .before .before .before .before .before .before in
+    let k = c .before .before .before .before .before .before .before .before .before .before .before in
     sym (length-take-le (4 * k .find-kinds .result) (kind-bits k) (bits-room k))
 
 merge-in-place-requires : tie.Need-merge-in-place-requires
 merge-in-place-requires c κs =
-    let k = c .before .before .before .before .before .before .before .before .before in
+    let k = c .before .before .before .before .before .before .before .before .before .before .before in
     let a = start k .args in
     mergeable (a .bits .now) (a .sizes .now) (a .set .now) (start k .pre .0) (a .threshold) (k .find-kinds .result) (kind-of k) (kind-sizes k) (kind-bits k)
     (k .find-kinds .ensures) (sizes-room k) (bits-room k) (take (k .find-kinds .result) (finals k)) (numbers-long k)
