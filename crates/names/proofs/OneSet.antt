@@ -1,6 +1,6 @@
 -- The turn of one set: as an item, or as its subgroups if the group is entries-aware.
 use Prim.Native.Nat.{ℕ, _≤_}
-use mathlib.Core.Bool.{Bool, false}
+use mathlib.Core.Bool.{Bool, true, false}
 use mathlib.Core.List.{List}
 use mathlib.Core.Option.{none}
 use mathlib.Core.Path.{_≡_, refl, sym, subst}
@@ -10,10 +10,12 @@ use Rattle.options.specs.declared.Settings.{Settings}
 use Rattle.emitting.specs.declared.emit.Head.{Head}
 use Rattle.emitting.specs.Emitted.{Work}
 use Rattle.grouping.specs.WorkList.{itemsOfSet}
+use Rattle.settling.specs.Modules.{modulesAt}
 use Rattle.items.specs.declared.convert.Limits.{Limits}
 use Rattle.items.specs.Turn.{Tables, untaken, emittedFrom, Listed, ItemReady, Converted}
 use Rattle.running.specs.Turns.{SetTurning, SetTurned}
-use Rattle.running.proofs.ItemTurn.{turn-entries, turn-ready, turn-advances}
+use Rattle.running.proofs.ItemTurn.{turn-ready, turn-advances}
+use Rattle.names.specs.Turn.{SetOffered, SetTaken}
 
 -- the head of a set that is one item, and the limits of its group
 abbrev headOf : ℕ → ℕ → BitSet → Head
@@ -25,35 +27,48 @@ limitsOf settings = record { minimum = settings .«min_size»; maximum = setting
 module _ {t : Tables} {bits : List ℕ} {number at : ℕ} {now : Work} {set : List ℕ} where
   -- ---- what an item asks
 
-  module _ (s : SetTurning t bits number at now set) where
+  module _ {aware : Bool} (s : SetOffered t bits aware number at now set) where
     pub set-item-ready : ItemReady t bits (untaken (now .chunk-of) set) now number at
     set-item-ready =
         let u = s .turning in
-        turn-ready (u .b) t bits (u .fits) (u .start) number at now (u .begun) (s .places) set (s .placed) (s .are) (u .small)
+        subst (λ (l : List ℕ). ItemReady t bits l now number at) (sym (s .stands .left))
+        (turn-ready (u .b) t bits (u .fits) (u .start) number at now (u .begun) (s .places) (modulesAt (u .b) (s .places)) (s .placed) refl (u .small))
 
     pub set-listed : {members : List ℕ} → length set ≤ length members → Listed (now .chunk-of) set members
-    set-listed h =
-        let u = s .turning in
-        record { numbered = turn-entries (u .b) t bits (u .fits) (u .start) number at now (u .begun) (s .places) set (s .placed) (s .are); space = h }
+    set-listed h = record { numbered = s .numbered; space = h }
+
+    -- a set that is divided is there whole
+    pub set-whole : aware ≡ true → SetTurning t bits number at now set
+    set-whole e = record { turning = s .turning; places = s .places; placed = s .placed; are = s .stands .whole e }
 
   -- ---- what is left
 
   module _ (settings : Settings) (group name : ℕ) {count : ℕ} {after : Work} where
     -- a set that is one item
-    pub item-turned : (own : BitSet)
+    pub item-turned : (own : BitSet) → settings .«entries_aware» ≡ false
         → Converted (emittedFrom t (headOf group name own) (limitsOf settings) (untaken (now .chunk-of) set)) bits number at count now after
-        → SetTurned t bits set (λ tree places. itemsOfSet false settings group name tree places) number at count now after
-    item-turned own c =
-        record {
-          advance = λ b start places fits placed are.
+        → SetTaken t bits (settings .«entries_aware») set
+        (λ tree places. itemsOfSet (settings .«entries_aware») settings group name tree places) number at count now after
+    item-turned own off c =
+        subst
+        (λ (by : Bool). SetTaken t bits (settings .«entries_aware») set (λ tree places. itemsOfSet by settings group name tree places) number at count now after)
+        (sym off)
+        (record {
+          advance = λ b start places fits placed stands.
               turn-advances b t bits fits start number at now
               (record { group = group; name = name; subgroup = 0; settings = settings; bits = none; places = places }) placed (headOf group name own)
-              (record { group = refl; name = refl; bits = refl }) (limitsOf settings) (record { minimum = refl; maximum = refl }) set are count after c;
-        }
+              (record { group = refl; name = refl; bits = refl }) (limitsOf settings) (record { minimum = refl; maximum = refl }) (modulesAt b places) refl
+              count after
+              (subst (λ (l : List ℕ). Converted (emittedFrom t (headOf group name own) (limitsOf settings) l) bits number at count now after)
+              (stands .left) c);
+        })
 
-    -- by whether the group is entries-aware
-    pub turned-by : {aware : Bool} → settings .«entries_aware» ≡ aware
-        → SetTurned t bits set (λ tree places. itemsOfSet aware settings group name tree places) number at count now after
-        → SetTurned t bits set (λ tree places. itemsOfSet (settings .«entries_aware») settings group name tree places) number at count now after
-    turned-by e s =
-        subst (λ (aware : Bool). SetTurned t bits set (λ tree places. itemsOfSet aware settings group name tree places) number at count now after) (sym e) s
+    -- a set that is divided
+    pub divided-turned : settings .«entries_aware» ≡ true
+        → SetTurned t bits set (λ tree places. itemsOfSet true settings group name tree places) number at count now after
+        → SetTaken t bits (settings .«entries_aware») set
+        (λ tree places. itemsOfSet (settings .«entries_aware») settings group name tree places) number at count now after
+    divided-turned on s =
+        subst
+        (λ (by : Bool). SetTaken t bits (settings .«entries_aware») set (λ tree places. itemsOfSet by settings group name tree places) number at count now after)
+        (sym on) (record { advance = λ b start places fits placed stands. s .advance b start places fits placed (stands .whole on) })

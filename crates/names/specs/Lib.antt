@@ -1,2 +1,3 @@
 -- The sets of one group on their turns.
+pub mod Closed
 pub mod Turn

@@ -1,4 +1,9 @@
 // The sets of one group turned into chunks, name by name.
+pub mod closed;
+
+use crate::closed::can_close;
+use crate::closed::close_set;
+use crate::closed::copy_flags;
 use bitset::entries::BitSet;
 use capture::clear::clear_bytes;
 use emitting::emit::Head;
@@ -15,10 +20,9 @@ ghost use Prim.Native.Nat.{_*_, _≤_};
 ghost use lib.ListN.{length};
 ghost use Rattle.capture.specs.Followed.{unfollowed};
 ghost use Rattle.grouping.specs.WorkList.{itemsOfSet};
-ghost use Rattle.running.specs.Turns.{SetTurning, SetTurned};
-ghost use Rattle.names.specs.Turn.{NamesTurning, NamesRoom, NamesTurned};
+ghost use Rattle.names.specs.Turn.{SetOffered, SetTaken, NamesTurning, NamesRoom, NamesTurned};
 
-// One set turned into chunks: an item, or its subgroups.
+// One set turned into chunks: an item, or its subgroups. A set that is one item may lack modules that have a chunk.
 fn convert_set(
     settings: Settings,
     group: u32,
@@ -39,12 +43,12 @@ fn convert_set(
     size_of: &mut [f64],
     bits_of: &mut [u64],
 ) -> usize
-    requires { ⌜ SetTurning (record {
+    requires { ⌜ SetOffered (record {
       bytes = now (bytes);
       offsets = now (offsets);
       sizes = now (sizes);
       rank = now (rank);
-    }) (now bits) (number .0) at (record {
+    }) (now bits) (settings .«entries_aware») (number .0) at (record {
       chunk-of = now («chunk_of»);
       group-of = now («group_of»);
       name-of = now («name_of»);
@@ -52,12 +56,12 @@ fn convert_set(
       bits-of = now («bits_of»);
     }) (now set) ⌝ }
     requires { ⌜ (length (now set) ≤ n) × (n ≤ 4096) × (3 * n ≤ length (now scratch)) ⌝ }
-    ensures { λ r. ⌜ SetTurned (record {
+    ensures { λ r. ⌜ SetTaken (record {
       bytes = now (bytes .entry);
       offsets = now (offsets .entry);
       sizes = now (sizes .entry);
       rank = now (rank .entry);
-    }) (now (bits .entry)) (now (set .entry))
+    }) (now (bits .entry)) (settings .«entries_aware») (now (set .entry))
         (λ tree places. itemsOfSet (settings .«entries_aware») settings group name tree places) (number .0) at r (record {
           chunk-of = now («chunk_of» .entry);
           group-of = now («group_of» .entry);
@@ -126,7 +130,8 @@ fn convert_set(
     )
 }
 
-// The sets of a group, whose matched modules stand in runs of one name each. The list of a walk stands in the first part of scratch.
+// The sets of a group, whose matched modules stand in runs of one name each. The list of a walk stands in the first part of scratch; walks pass over
+// sets that are closed.
 pub fn convert_names(
     settings: Settings,
     group: u32,
@@ -203,13 +208,16 @@ pub fn convert_names(
     clear_bytes(marks);
     let mut place = [0u32; 4096];
     store_places(settings.recursive, order, &mut place);
+    let mut live = [0u8; 4096];
+    copy_flags(flags, &mut live[..n]);
+    let closing = can_close(settings);
     let mut made = 0;
     let mut from = 0;
     while from < matched.len() {
         let to = run_end(matched, from);
         let count = build_set(
             settings.recursive,
-            flags,
+            &live[..n],
             first,
             dependency,
             next,
@@ -242,6 +250,7 @@ pub fn convert_names(
                 size_of,
                 bits_of,
             );
+        close_set(closing, &set[..count], chunk_of, &mut live[..n]);
         from = to;
     }
     made

@@ -7,13 +7,14 @@ use mathlib.Core.Path.{_≡_, refl, sym, ap, ap₂, _∙_, subst}
 use native.Mathlib.Omega.{arith}
 use borrow.Author.Tests.{eqb-true, eq-eqb, lt-ltb}
 use lib.Dec.{eqb, ltb}
-use lib.ListN.{length, getD}
+use lib.ListN.{length, getD, take}
 use Rattle.lists.specs.Keep.{keep}
 use Rattle.lists.specs.Range.{range}
 use Rattle.lists.proofs.Below.{both}
-use Rattle.lists.proofs.KeepTests.{keep-map}
+use Rattle.lists.proofs.KeepTests.{keep-keep, keep-map}
 use Rattle.lists.proofs.Map.{getD-map-below, map-getD-range}
 use Rattle.lists.proofs.Members.{keep-mem, mem-keep, range-mem, mem-range}
+use Rattle.lists.proofs.Pairs.{pairs-keep}
 use Rattle.lists.proofs.Position.{mem-getD, getD-mem}
 use Rattle.lists.proofs.Sort.{Rising, pairs-weaker, pairs-kept, keys-same}
 use Rattle.filter.specs.Filter.{passes}
@@ -187,7 +188,100 @@ module _ (b : Given) (ok : Passed b) (g : ℕ) (h : g < b .variant .g) (name : �
             λ s. absurd (o .1 (subst (λ (d : ℕ). Reach d (moduleAt b p)) (sym depth) (reached-set on (moduleAt b p) .1 s))),
           )
 
+  -- ---- a part of the set, found with other flag bytes
+
+  -- module k is reached by the flag bytes `live`, from some modules or from the starts
+  abbrev ReachFrom : (ℕ → Type 0) → List ℕ → ℕ → Type 0
+  ReachFrom S live k =
+      Reached (capture.Eligible live) (capture.Names (b .shared .first) (b .shared .dependency) (b .shared .next) (length (b .shared .next) - 1)) S k
+
+  abbrev ReachBy : List ℕ → ℕ → Type 0
+  ReachBy live k = ReachFrom (λ m. List·Memᴰ m starts) live k
+
+  -- if both reach the same of the modules that pass a test, both sets are the same where it is passed
+  module _ (on : settingsOf b g .recursive ≡ true) (live marks : List ℕ) (bytes : length live ≡ length (b .variant .flags)) (un : ℕ → Bool)
+      (same : (k : ℕ) → un k ≡ true → ReachBy (b .variant .flags) k ↔ ReachBy live k)
+      (x : AllCaptured live (b .shared .first) (b .shared .dependency) (b .shared .next) starts marks) where
+    abbrev marked-by : ℕ → Bool
+    marked-by m = eqb (getD marks m 0) 1
+
+    -- a place that is marked is one of the set, among those that pass
+    by-mark : (p : ℕ) → p < count → un (moduleAt b p) ≡ true → marked-by (moduleAt b p) ≡ true ↔ InSet b g name (moduleAt b p)
+    by-mark p u e = go (x .each (moduleAt b p) (omega (arith, bytes, flag-bytes b ok, places-mem b (moduleAt b p) (getD-mem (placesOf b) p 0 u) .0)))
+      where
+        depth : length (b .shared .next) - 1 ≡ b .shared .d
+        depth = omega (arith, record-tables b ok .nexts)
+
+        in-set : ReachBy live (moduleAt b p) ↔ InSet b g name (moduleAt b p)
+        in-set = (
+          λ r. reached-set on (moduleAt b p) .0 (subst (λ (d : ℕ). Reach d (moduleAt b p)) depth (same (moduleAt b p) e .1 r)),
+          λ s. same (moduleAt b p) e .0 (subst (λ (d : ℕ). Reach d (moduleAt b p)) (sym depth) (reached-set on (moduleAt b p) .1 s)),
+        )
+
+        go : ((getD marks (moduleAt b p) 0 ≡ 1) × ReachBy live (moduleAt b p))
+            ⊎ ((getD marks (moduleAt b p) 0 ≡ 0) × (ReachBy live (moduleAt b p) → ⊥))
+            → marked-by (moduleAt b p) ≡ true ↔ InSet b g name (moduleAt b p)
+        go (inl o) = (λ q. in-set .0 (o .1), λ s. eq-eqb (getD marks (moduleAt b p) 0) 1 (o .0))
+        go (inr o) = (
+          λ q. absurd (let z = eqb-true (getD marks (moduleAt b p) 0) 1 q in omega arith),
+          λ s. absurd (o .1 (in-set .1 s)),
+        )
+
+    -- the places of the set that pass
+    both-pass : ℕ → Bool
+    both-pass p = marked-by (moduleAt b p) && un (moduleAt b p)
+
+    by-places : keep both-pass (range 0 count) ≡ keep (λ p. un (moduleAt b p)) places
+    unfolding both-pass
+    by-places =
+        keys-same (λ n. n) (keep both-pass (range 0 count)) (keep (λ p. un (moduleAt b p)) places)
+        (pairs-kept (λ x y. ltb x y ≡ true) both-pass 0 count (λ x y l u e f. lt-ltb x y l))
+        (pairs-keep (λ p. un (moduleAt b p)) (pairs-weaker (λ x y l. lt-ltb x y l) (placed .ascend))) there back
+      where
+        placed : Placed (length (treeOf b)) places
+        placed = set-placed (settingsOf b g) g (treeOf b) name
+
+        union : SetIsUnion b g name
+        union = set-captures b (ok .records) g h name
+
+        there : (p : ℕ) → List·Memᴰ p (keep both-pass (range 0 count)) → List·Memᴰ p (keep (λ p. un (moduleAt b p)) places)
+        there p m =
+            let o = keep-mem both-pass (range 0 count) p m in
+            let r = range-mem 0 count p (o .0) in
+            let u : p < count = omega arith in
+            let t = both (marked-by (moduleAt b p)) (un (moduleAt b p)) (o .1) in
+            mem-keep (λ p. un (moduleAt b p)) p (union .by-place p u .1 (by-mark p u (t .1) .0 (t .0))) (t .1)
+
+        back : (p : ℕ) → List·Memᴰ p (keep (λ p. un (moduleAt b p)) places) → List·Memᴰ p (keep both-pass (range 0 count))
+        back p m =
+            let o = keep-mem (λ p. un (moduleAt b p)) places p m in
+            let u : p < count = omega (arith, tree-length b, placed .below p (o .0)) in
+            mem-keep both-pass p (mem-range 0 count p (omega arith) (omega arith))
+            (ap₂ _&&_ (by-mark p u (o .1) .1 (union .by-place p u .0 (o .0))) (o .1))
+
+    left-marked : keep un (markedIn marks (placesOf b)) ≡ keep un (modulesAt b places)
+    unfolding markedIn both-pass
+    left-marked =
+        ap (λ (l : List ℕ). keep un (keep marked-by l)) (sym (map-getD-range (placesOf b) 0))
+        ∙ ap (keep un) (keep-map marked-by (moduleAt b) (range 0 count))
+        ∙ keep-map un (moduleAt b) (keep (λ p. marked-by (moduleAt b p)) (range 0 count))
+        ∙ ap (map (moduleAt b)) (keep-keep (λ p. un (moduleAt b p)) (λ p. marked-by (moduleAt b p)) (range 0 count) ∙ by-places)
+        ∙ sym (keep-map un (moduleAt b) places)
+
   -- ---- the set
+
+  -- what passes of a set that was found with other flag bytes, which reach the same of what passes
+  pub set-left : {run : List ℕ} {n : ℕ} {live area : List ℕ} → run ≡ runOf b g name → settingsOf b g .recursive ≡ true
+      → length live ≡ length (b .variant .flags) → (un : ℕ → Bool)
+      → ((S : ℕ → Type 0) (k : ℕ) → un k ≡ true → ReachFrom S (b .variant .flags) k ↔ ReachFrom S live k)
+      → SetBuilt (settingsOf b g .recursive) live (b .shared .first) (b .shared .dependency) (b .shared .next) (placesOf b) run n area
+      → keep un (take n area) ≡ keep un (modulesAt b places)
+  set-left {run} {live = live} e on bytes un same s =
+      let x = s .captured on in
+      let from : startsOf (placesOf b) run ≡ starts = ap (startsOf (placesOf b)) e ∙ run-starts b ok g h name in
+      ap (keep un) (x .holds .entries)
+      ∙ left-marked on live (x .marks) bytes un (same (λ m. List·Memᴰ m starts))
+      (subst (λ (l : List ℕ). AllCaptured live (b .shared .first) (b .shared .dependency) (b .shared .next) l (x .marks)) from (x .marked))
 
   pub set-built : {run : List ℕ} {n : ℕ} {area : List ℕ} → run ≡ runOf b g name
       → SetBuilt (settingsOf b g .recursive) (b .variant .flags) (b .shared .first) (b .shared .dependency) (b .shared .next) (placesOf b) run n area

@@ -1,13 +1,16 @@
 -- `names::convert_set` meets its contract: an entries-aware set is handed on, any other is one item.
 use native.Mathlib.Omega.{arith}
 use lib.ListN.{length-take, length-drop}
-use Rattle.names.proofs.OneSet.{set-item-ready, set-listed, item-turned, turned-by}
+use Rattle.names.proofs.OneSet.{set-item-ready, set-listed, set-whole, item-turned, divided-turned}
 use borrow.Author.Needs.{needs}
 use Rattle.names.proofs.convert_set.Statement.{statement}
 use Rattle.names.proofs.convert_set.Tie as tie
 
 convert-subgroups-requires : tie.Need-convert-subgroups-requires
-convert-subgroups-requires c κs = search needs
+convert-subgroups-requires c κs =
+    let chosen = c .before .before .before .before .before .before in
+    let s = chosen .before .before .before .before .before .before .before .before .before .before .before .before .before in
+    (set-whole (s .pre .0) (chosen .if1 .taken), s .pre .1)
 
 same-length : tie.Need-same-length
 same-length c = search needs
@@ -33,7 +36,7 @@ returns c =
     let chosen = called .before .before .before .before .before .before .before in
     let s = chosen .before .before .before .before .before .before .before .before .before .before .before .before .before in
     let e = called .convert-subgroups .ensures in
-    (turned-by (s .args .settings) (s .args .group) (s .args .name) (chosen .if1 .taken) (e .0), e .1)
+    (divided-turned (s .args .settings) (s .args .group) (s .args .name) (chosen .if1 .taken) (e .0), e .1)
 
 new-requires : tie.Need-new-requires
 new-requires c κs = search needs
@@ -83,8 +86,7 @@ returns-2 c =
     let built = called .before .before .before .before .before .before .before in
     let s = built .before .before .before .before .before .before .before .before .before .before .before .before .before .before in
     let a = s .args in (
-      turned-by (a .settings) (a .group) (a .name) (built .before .if1 .left)
-          (item-turned (a .settings) (a .group) (a .name) (built .new .result) (called .convert-item-to-chunks .ensures .0)),
+      item-turned (a .settings) (a .group) (a .name) (built .new .result) (built .before .if1 .left) (called .convert-item-to-chunks .ensures .0),
       same-length-7 c,
     )
 
