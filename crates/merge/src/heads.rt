@@ -64,7 +64,8 @@ pub fn refresh(heads: &mut [u32], sizes: &[u64], threshold: f64, number: usize)
 
 // Looks through all blocks.
 pub fn fill_heads(heads: &mut [u32], sizes: &[u64], threshold: f64)
-    requires { ⌜ Exact (now sizes) × (length (now sizes) ≤ 4096) × (length (now sizes) ≤ 16 * length (now heads)) × (16 * length (now heads) < length (now sizes) + 16) ⌝ }
+    requires { ⌜ Exact (now sizes) × (length (now sizes) ≤ 4096) × (length (now sizes) ≤ 16 * length (now heads))
+        × (16 * length (now heads) < length (now sizes) + 16) ⌝ }
     ensures { λ _. ⌜ Heads threshold (now (sizes .entry)) (now (heads .exit)) ⌝ }
 {
     let mut j = 0;

@@ -56,7 +56,8 @@ loop-again c =
     let l = c .before .before .before .before .loop in
     let a = c .before .before .before .before .before .before .before .before .args in (
       omega arith,
-      search-kept-more (seekerAt (a .sizes .now)) comesFirst (a .heads .now) (seeking (a .threshold)) (l .i) (omega arith) (foundOf (l .best)) (foundOf (c .or-seeker .result)) (l .inv .1)
+      search-kept-more (seekerAt (a .sizes .now)) comesFirst (a .heads .now) (seeking (a .threshold)) (l .i) (omega arith)
+          (foundOf (l .best)) (foundOf (c .or-seeker .result)) (l .inv .1)
           (c .or-seeker .ensures ∙ ap (λ (x : Candidate). looked comesFirst (seeking (a .threshold) x) (foundOf (l .best)) x) (c .before .seeker-at .ensures)),
     )
 

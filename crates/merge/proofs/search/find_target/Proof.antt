@@ -72,8 +72,8 @@ loop-again c =
     let l = c .before .before .before .loop in
     let a = c .before .before .before .before .before .before .before .before .before .before .args in (
       omega arith,
-      search-more (targetAt (a .sizes .now) (a .bits .now) (a .wanted)) comesFirst (a .there .now) (l .i) (omega arith) (some (l .best)) (some (c .or-target .result)) (l .inv .1)
-          (ap some (c .or-target .ensures)),
+      search-more (targetAt (a .sizes .now) (a .bits .now) (a .wanted)) comesFirst (a .there .now) (l .i) (omega arith)
+          (some (l .best)) (some (c .or-target .result)) (l .inv .1) (ap some (c .or-target .ensures)),
     )
 
 returns-2 : tie.Need-returns-2 Inv-loop μ-loop

@@ -21,7 +21,8 @@ unfolding targetAt
 returns c =
     let r = c .before .before .row in
     let a = c .before .before .before .before .before .args in
-    let few : firstOnes (a .wanted) (r .result) ≤ differing (a .wanted) (r .result) = first-at-most {a = a .wanted} {b = r .result} (search held) (search held) in
+    let few : firstOnes (a .wanted) (r .result) ≤ differing (a .wanted) (r .result) =
+    first-at-most {a = a .wanted} {b = r .result} (search held) (search held) in
     let x = targetAt (a .sizes .now) (a .bits .now) (a .wanted) (a .i) in
     not-earlier (a .self) x
     (farther (a .self) x (firstOnes (a .wanted) (r .result)) (subst (λ w. firstOnes (a .wanted) (r .result) ≤ differing (a .wanted) w) (r .ensures) few)
