@@ -105,7 +105,8 @@ module _ (threshold : Float) (sizes : List ℕ) where
       ∙ ap (λ b. b && lt (toF64 0) threshold) (lt-exact 0 0 (omega arith) (omega arith))
 
   -- tests that agree on the numbers of two lists
-  same-kept : (l m : List ℕ) → keep (seeksAt threshold sizes) l ≡ keep (seeksAt threshold sizes) m → firstSeeker threshold sizes l ≡ firstSeeker threshold sizes m
+  same-kept : (l m : List ℕ) → keep (seeksAt threshold sizes) l ≡ keep (seeksAt threshold sizes) m
+      → firstSeeker threshold sizes l ≡ firstSeeker threshold sizes m
   unfolding firstSeeker
   same-kept l m e =
       ap (least comesFirst) (keep-map (seekerAt sizes) (seeking threshold) l)
@@ -132,7 +133,8 @@ module _ (threshold : Float) (sizes : List ℕ) where
         ∙ least-append (seeksBefore sizes) (seek-order sizes exact) (keep (seeksAt threshold sizes) l) (keep (seeksAt threshold sizes) m)
 
     -- lists with the same first seekers in place of others
-    pub same-ends : (l l′ m m′ : List ℕ) → firstSeeker threshold sizes l ≡ firstSeeker threshold sizes l′ → firstSeeker threshold sizes m ≡ firstSeeker threshold sizes m′
+    pub same-ends : (l l′ m m′ : List ℕ) → firstSeeker threshold sizes l ≡ firstSeeker threshold sizes l′
+        → firstSeeker threshold sizes m ≡ firstSeeker threshold sizes m′
         → firstSeeker threshold sizes (l ++ m) ≡ firstSeeker threshold sizes (l′ ++ m′)
     same-ends l l′ m m′ e f =
         let first : firstNumber l ≡ firstNumber l′ = number-back l ∙ ap (Option·map (λ (c : Candidate). c .number)) e ∙ sym (number-back l′) in
@@ -214,7 +216,8 @@ module _ (threshold : Float) (sizes : List ℕ) where
     first-blocks (suc m) h =
         let more : 16 * m + 16 ≡ 16 * suc m = omega arith in
         ap (firstSeeker threshold sizes) (take-suc heads m 0 (omega arith))
-        ∙ same-ends exact (take m heads) (range 0 (16 * m)) (getD heads m 0 ∷ []) (range (16 * m) 16) (first-blocks m (omega arith)) (stand .stand m (omega arith) .first)
+        ∙ same-ends exact (take m heads) (range 0 (16 * m)) (getD heads m 0 ∷ []) (range (16 * m) 16)
+        (first-blocks m (omega arith)) (stand .stand m (omega arith) .first)
         ∙ ap (λ n. firstSeeker threshold sizes (range 0 (16 * m) ++ range n 16)) (sym (zero-add (16 * m)))
         ∙ ap (firstSeeker threshold sizes) (sym (range-append 0 (16 * m) 16))
         ∙ ap (λ n. firstSeeker threshold sizes (range 0 n)) more
@@ -236,7 +239,8 @@ module _ (threshold : Float) (sizes heads : List ℕ) (j f : ℕ) (h : j < lengt
     others = λ i n. getD-set-other heads j i f 0 n;
   }
 
-  pub one-more-head : ((i : ℕ) → i < j → StandsFor threshold sizes i (getD heads i 0)) → (i : ℕ) → i < j + 1 → StandsFor threshold sizes i (getD (set heads j f) i 0)
+  pub one-more-head : ((i : ℕ) → i < j → StandsFor threshold sizes i (getD heads i 0)) → (i : ℕ) → i < j + 1
+      → StandsFor threshold sizes i (getD (set heads j f) i 0)
   one-more-head below i l =
       by-number i j
       (λ e. subst (λ k. StandsFor threshold sizes k (getD (set heads j f) k 0)) (sym e) (head-written .here))

@@ -1,16 +1,17 @@
 -- One more is looked at: it takes the place of the best so far, or the best stays.
 use Prim.Native.Nat.{ℕ, _≤_, _<_}
-use mathlib.Core.Bool.{Bool, true, false, cond, true≢false, false≢true}
+use mathlib.Core.Bool.{Bool, true, false, cond, true≢false}
 use mathlib.Core.Option.{some, none}
 use mathlib.Core.Path.{_≡_, refl, sym, ap, _∙_}
 use borrow.Author.Tests.{lt-ltb, le-ltb, ltb-true}
 use native.Mathlib.Omega.{arith}
 use lib.Dec.{ltb}
+use Rattle.lists.specs.Least.{earlier}
 use Rattle.bitset.specs.Entries.{differing}
 use Rattle.bitset.specs.declared.entries.BitSet.{BitSet}
 use Rattle.bitset.proofs.Words.{Words}
 use Rattle.bitset.proofs.Differing.{differing-ones}
-use Rattle.merge.specs.Search.{comesFirst, firstOnes, foundOf, givesWay, nearerThan, looked}
+use Rattle.merge.specs.Search.{comesFirst, firstOnes, foundOf, givesWay, looked}
 use Rattle.merge.specs.declared.candidate.Candidate.{Candidate}
 use Rattle.merge.specs.declared.search.Best.{Best}
 
@@ -31,15 +32,6 @@ module _ (c x : Candidate) where
   takes-of true e = ap some (ap (λ b. cond b x c) (sym e))
   takes-of false e = refl
 
-  -- n entries are at most those of x, and more than those of c
-  farther : (n : ℕ) → n ≤ x .distance → c .distance < n → comesFirst x c ≡ false
-  unfolding comesFirst
-  farther n h l = rw (le-ltb (x .distance) (c .distance) (omega arith), lt-ltb (c .distance) (x .distance) (omega arith))
-
-  farther-of : (n : ℕ) → n ≤ x .distance → (f : Bool) → cond f (ltb (c .distance) n) false ≡ true → cond f (comesFirst x c) true ≡ false
-  farther-of n h true e = farther n h (ltb-true (c .distance) n e)
-  farther-of n h false e = absurd (false≢true e)
-
 -- ---- the best so far b, and one more x
 
 module _ (b : Best) (x : Candidate) where
@@ -55,9 +47,21 @@ module _ (b : Best) (x : Candidate) where
   unfolding foundOf givesWay
   takes-over e t q = takes-of (b .candidate) x (b .found) e ∙ ap (λ t. looked comesFirst t (foundOf b) x) (sym q)
 
-  pub far-away : (n : ℕ) → n ≤ x .distance → nearerThan b n ≡ true → givesWay b x ≡ false
-  unfolding givesWay nearerThan
-  far-away n h e = farther-of (b .candidate) x n h (b .found) e
+-- ---- the nearest so far c, and one more x
+
+module _ (c x : Candidate) where
+  pub not-earlier : comesFirst x c ≡ false → c ≡ earlier comesFirst c x
+  not-earlier e = sym (ap (λ b. cond b x c) e)
+
+  pub is-earlier : comesFirst x c ≡ true → x ≡ earlier comesFirst c x
+  is-earlier e = sym (ap (λ b. cond b x c) e)
+
+  -- n entries are at most those of x, and more than those of c
+  pub farther : (n : ℕ) → n ≤ x .distance → ltb (c .distance) n ≡ true → comesFirst x c ≡ false
+  unfolding comesFirst
+  farther n h e =
+      let l : c .distance < n = ltb-true (c .distance) n e in
+      rw (le-ltb (x .distance) (c .distance) (omega arith), lt-ltb (c .distance) (x .distance) (omega arith))
 
 -- the first words alone tell two sets apart by no more entries than all four
 pub first-at-most : {a b : BitSet} → Words a → Words b → firstOnes a b ≤ differing a b

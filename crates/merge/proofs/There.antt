@@ -2,7 +2,7 @@
 use Prim.Native.Nat.{ℕ, _+_, _≤_, _<_, _^_}
 use mathlib.Core.Bool.{Bool, true, not}
 use mathlib.Core.List.{List, [], _∷_, _++_, map, map-append}
-use mathlib.Core.Option.{Option, none}
+use mathlib.Core.Option.{Option, none, some}
 use mathlib.Core.Path.{_≡_, refl, sym, ap, _∙_}
 use native.Mathlib.Numerals.{add-one}
 use native.Mathlib.Omega.{arith}
@@ -18,6 +18,10 @@ use Rattle.merge.specs.Engine.{InRow}
 use Rattle.merge.proofs.Totals.{one-of-sum}
 use Rattle.merge.proofs.Least.{least-snoc, least-more}
 
+length-zero : (l : List ℕ) → length l ≡ 0 → l ≡ []
+length-zero [] e = refl
+length-zero (x ∷ l) e = absurd (omega arith)
+
 -- another subgroup than s
 abbrev pub other : Subgroup → Subgroup → Bool
 other s u = not (eqb (u .number) (s .number))
@@ -27,9 +31,15 @@ module _ {A : Type 0} (f : ℕ → A) (before : A → A → Bool) (l : List ℕ)
   images-more : (i : ℕ) → i < length l → map f (take (i + 1) l) ≡ map f (take i l) ++ (f (getD l i 0) ∷ [])
   images-more i h = rw (add-one i) (ap (map f) (take-suc l i 0 h) ∙ map-append f (take i l) (getD l i 0 ∷ []))
 
-  pub search-none : none ≡ least before (map f (take 0 l))
+  -- the first alone
+  pub search-one : 0 < length l → some (f (getD l 0 0)) ≡ least before (map f (take 1 l))
   unfolding least
-  search-none = refl
+  search-one h = ap (λ m. least before (map f m)) (sym (take-suc l 0 0 h))
+
+  -- none if there is none
+  pub search-empty : length l ≡ 0 → none ≡ least before (map f l)
+  unfolding least
+  search-empty e = ap (λ m. least before (map f m)) (sym (length-zero l e))
 
   -- number i of the list is looked at
   pub search-more : (i : ℕ) → i < length l → (best next : Option A) → best ≡ least before (map f (take i l))

@@ -43,7 +43,8 @@ sizes-fit-all numbers sizes bits sound =
 
 -- ---- one turn
 
-module _ (threshold : Float) (numbers sizes bits there heads : List ℕ) (sound : Sound numbers sizes bits) (is : there ≡ listed numbers) (stand : Heads threshold sizes heads) where
+module _ (threshold : Float) (numbers sizes bits there heads : List ℕ) (sound : Sound numbers sizes bits) (is : there ≡ listed numbers)
+    (stand : Heads threshold sizes heads) where
   stands : nextJoin threshold (thereIn numbers sizes bits) ≡ stop → (l : List ℕ) → Turn threshold false numbers sizes bits there numbers sizes bits l heads
   stands e l = record {
     answer = sym (ap makesJoin e);
@@ -157,7 +158,8 @@ module _ (threshold : Float) (numbers sizes bits there heads : List ℕ) (sound 
                   )
 
               pub turn-with-join : (n z w l : List ℕ) → JoinedTables s t numbers sizes bits n z w → take (length there - 1) l ≡ left
-                  → (heads₁ heads₂ : List ℕ) → length heads₁ ≡ length heads → length heads₂ ≡ length heads₁ → Refreshed threshold z (from / 16) heads heads₁ → Refreshed threshold z (to / 16) heads₁ heads₂
+                  → (heads₁ heads₂ : List ℕ) → length heads₁ ≡ length heads → length heads₂ ≡ length heads₁
+                  → Refreshed threshold z (from / 16) heads heads₁ → Refreshed threshold z (to / 16) heads₁ heads₂
                   → Turn threshold true numbers sizes bits there n z w l heads₂
               turn-with-join n z w l after short heads₁ heads₂ long₁ long₂ at-from at-to =
                   let next = next-join threshold (thereIn numbers sizes bits) s s-found t t-found in
@@ -183,7 +185,8 @@ none-made (joins s t) m rest e = absurd (false≢true e)
 
 module _ (threshold : Float) (n z b l n′ z′ b′ l′ heads : List ℕ) where
   -- after a join there is one turn less to go
-  pub turn-more : Turn threshold true n z b l n′ z′ b′ l′ heads → (left : ℕ) → mergeSteps left threshold (stateOf n′ z′ b′) ≡ mergeSteps (suc left) threshold (stateOf n z b)
+  pub turn-more : Turn threshold true n z b l n′ z′ b′ l′ heads → (left : ℕ)
+      → mergeSteps left threshold (stateOf n′ z′ b′) ≡ mergeSteps (suc left) threshold (stateOf n z b)
   unfolding mergeSteps
   turn-more turn left =
       ap (mergeSteps left threshold) (turn .state) ∙ sym (made (nextJoin threshold (thereIn n z b)) (stateOf n z b) (mergeSteps left threshold) (turn .answer))

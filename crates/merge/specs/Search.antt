@@ -63,10 +63,6 @@ unfoldable pub givesWay : Best → Candidate → Bool
 unfolding comesFirst
 givesWay b x = cond (b .found) (comesFirst x (b .candidate)) true
 
--- it has fewer entries than n
-unfoldable pub nearerThan : Best → ℕ → Bool
-nearerThan b n = cond (b .found) (ltb (b .candidate .distance) n) false
-
 -- The best so far, and one more: passed over unless it is among those that are looked for.
 unfoldable pub looked : {A : Type 0} → (A → A → Bool) → Bool → Option A → A → Option A
 looked before false best x = best

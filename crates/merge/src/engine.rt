@@ -87,14 +87,7 @@ fn join_all(
     fill_heads(heads, sizes, threshold);
     let mut left = there.len();
     while 0 < left {
-        if !join_next(
-            numbers,
-            sizes,
-            bits,
-            &mut there[..left],
-            heads,
-            threshold,
-        ) {
+        if !join_next(numbers, sizes, bits, &mut there[..left], heads, threshold) {
             return;
         }
         left = left - 1;

@@ -1,35 +1,21 @@
 // Blocks of 16 numbers, and for each block its head: a number that stands for it, the one that seeks first where any of them seeks. A join changes
 // two sizes, so that two blocks are looked through again, and the heads of all.
 use crate::candidate::Candidate;
-use crate::tables::size_at;
 ghost use mathlib.Core.Path.{_≡_};
 ghost use Prim.Native.Nat.{_+_, _*_, _/_, _≤_, _<_};
 ghost use lib.ListN.{length};
-ghost use Rattle.merge.specs.Search.{seekerAt};
 ghost use Rattle.merge.specs.Seekers.{ahead, Exact, StandsFor, Heads, Refreshed};
-
-// What a search for a seeker keeps of number i.
-fn seeker_at(sizes: &[u64], i: usize) -> Candidate
-    requires { ⌜ Exact (now sizes) × (i < length (now sizes)) ⌝ }
-    ensures { λ r. ⌜ r ≡ seekerAt (now (sizes .entry)) i ⌝ }
-{
-    Candidate {
-        number: i,
-        size: size_at(sizes, i),
-        distance: 0,
-    }
-}
 
 // The one of two numbers that stands for both.
 fn ahead(sizes: &[u64], threshold: f64, best: usize, i: usize) -> usize
     requires { ⌜ Exact (now sizes) × (best < length (now sizes)) × (i < length (now sizes)) ⌝ }
     ensures { λ r. ⌜ r ≡ ahead threshold (now (sizes .entry)) best i ⌝ }
 {
-    let x = seeker_at(sizes, i);
+    let x = Candidate::seeker_at(sizes, i);
     if !x.seeks(threshold) {
         return best;
     }
-    let y = seeker_at(sizes, best);
+    let y = Candidate::seeker_at(sizes, best);
     if !y.seeks(threshold) {
         return i;
     }
@@ -78,7 +64,8 @@ pub fn refresh(heads: &mut [u32], sizes: &[u64], threshold: f64, number: usize)
 
 // Looks through all blocks.
 pub fn fill_heads(heads: &mut [u32], sizes: &[u64], threshold: f64)
-    requires { ⌜ Exact (now sizes) × (length (now sizes) ≤ 4096) × (length (now sizes) ≤ 16 * length (now heads)) × (16 * length (now heads) < length (now sizes) + 16) ⌝ }
+    requires { ⌜ Exact (now sizes) × (length (now sizes) ≤ 4096) × (length (now sizes) ≤ 16 * length (now heads))
+        × (16 * length (now heads) < length (now sizes) + 16) ⌝ }
     ensures { λ _. ⌜ Heads threshold (now (sizes .entry)) (now (heads .exit)) ⌝ }
 {
     let mut j = 0;

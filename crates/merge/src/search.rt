@@ -1,17 +1,15 @@
-// The search for the next join: a list of numbers is looked through afresh, with the best so far in a value.
+// The search for the next join: the heads are looked through for the seeker and the list of those still there for its target, with the best so far in
+// a value.
 use crate::candidate::Candidate;
-use crate::tables::size_at;
 use bitset::entries::BitSet;
-use bitset::table::row;
 ghost use mathlib.Core.Path.{_≡_};
-ghost use mathlib.Core.Bool.{true};
 ghost use mathlib.Core.List.{map};
 ghost use mathlib.Core.Option.{none};
 ghost use Prim.Native.Nat.{_*_, _≤_};
 ghost use lib.ListN.{length};
 ghost use Rattle.lists.specs.Keep.{keep};
 ghost use Rattle.lists.specs.Least.{least};
-ghost use Rattle.merge.specs.Search.{seeking, comesFirst, seekerAt, targetAt, firstOnes, foundOf, givesWay, nearerThan, looked, Readable, Row};
+ghost use Rattle.merge.specs.Search.{seeking, comesFirst, seekerAt, targetAt, foundOf, givesWay, looked, Readable};
 
 // The best of those that were looked at, if there is one.
 pub struct Best {
@@ -58,61 +56,17 @@ impl Best {
             candidate: x,
         }
     }
-
-    // Whether the first words alone rule another set out: they tell it from the wanted one by more entries than the best so far has.
-    pub fn rules_out(self, other: BitSet, wanted: BitSet) -> bool
-        ensures { λ r. ⌜ r ≡ nearerThan self (firstOnes wanted other) ⌝ }
-    {
-        if !self.found {
-            return false;
-        }
-        let a = wanted.words;
-        let b = other.words;
-        let best = self.candidate;
-        best.distance < u64::count_ones(a[0] ^ b[0])
-    }
-
-    // The best target of a seeker with these entries, once row i was looked at.
-    pub fn or_target(self, sizes: &[u64], bits: &[u64], i: usize, wanted: BitSet) -> Best
-        requires { ⌜ Row (now sizes) (now bits) i ⌝ }
-        ensures { λ r. ⌜ foundOf r ≡ looked comesFirst true (foundOf self) (targetAt (now (sizes .entry)) (now (bits .entry)) wanted i) ⌝ }
-    {
-        let other = row(bits, i);
-        if self.rules_out(other, wanted) {
-            return self;
-        }
-        let x = Candidate {
-            number: i,
-            size: size_at(sizes, i),
-            distance: wanted.symmetric_difference_count(other),
-        };
-        if !self.gives_way(x) {
-            return self;
-        }
-        Best {
-            found: true,
-            candidate: x,
-        }
-    }
 }
 
-// The subgroup that seeks: of those listed with 0 < size < threshold, the smallest, then the lowest number.
-pub fn find_seeker(there: &[u32], sizes: &[u64], threshold: f64) -> Best
-    requires { ⌜ Readable (now there) (now sizes) ⌝ }
-    ensures { λ r. ⌜ foundOf r ≡ least comesFirst (keep (seeking threshold) (map (seekerAt (now (sizes .entry))) (now (there .entry)))) ⌝ }
+// The subgroup that seeks: of the heads with 0 < size < threshold, the smallest, then the lowest number.
+pub fn find_seeker(heads: &[u32], sizes: &[u64], threshold: f64) -> Best
+    requires { ⌜ Readable (now heads) (now sizes) ⌝ }
+    ensures { λ r. ⌜ foundOf r ≡ least comesFirst (keep (seeking threshold) (map (seekerAt (now (sizes .entry))) (now (heads .entry)))) ⌝ }
 {
     let mut best = Best::nothing();
     let mut i = 0;
-    while i < there.len() {
-        let m = there[i] as usize;
-        best = best.or_seeker(
-            Candidate {
-                number: m,
-                size: size_at(sizes, m),
-                distance: 0,
-            },
-            threshold,
-        );
+    while i < heads.len() {
+        best = best.or_seeker(Candidate::seeker_at(sizes, heads[i] as usize), threshold);
         i = i + 1;
     }
     best
@@ -123,11 +77,17 @@ pub fn find_target(there: &[u32], sizes: &[u64], bits: &[u64], wanted: BitSet) -
     requires { ⌜ Readable (now there) (now sizes) × (4 * length (now sizes) ≤ length (now bits)) ⌝ }
     ensures { λ r. ⌜ foundOf r ≡ least comesFirst (map (targetAt (now (sizes .entry)) (now (bits .entry)) wanted) (now (there .entry))) ⌝ }
 {
-    let mut best = Best::nothing();
-    let mut i = 0;
+    if there.len() == 0 {
+        return Best::nothing();
+    }
+    let mut best = Candidate::target_at(sizes, bits, there[0] as usize, wanted);
+    let mut i = 1;
     while i < there.len() {
         best = best.or_target(sizes, bits, there[i] as usize, wanted);
         i = i + 1;
     }
-    best
+    Best {
+        found: true,
+        candidate: best,
+    }
 }

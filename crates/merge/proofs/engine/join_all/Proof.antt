@@ -72,35 +72,46 @@ join-next-requires : tie.Need-join-next-requires Inv-loop μ-loop
 join-next-requires c κs = let l = c .before .before .before .before .before .before .loop in (l .inv .0, l .inv .3, l .inv .4)
 
 same-length : tie.Need-same-length Inv-loop μ-loop
-same-length c = let j = c .before .before .before .before .before .before .before .before .before .before .before in j .join-next .kept .0 ∙ j .before .before .before .before .before .before .before .loop .inv .5
+same-length c =
+    let j = c .before .before .before .before .before .before .before .before .before .before .before in
+    j .join-next .kept .0 ∙ j .before .before .before .before .before .before .before .loop .inv .5
 
 same-length-2 : tie.Need-same-length-2 Inv-loop μ-loop
-same-length-2 c = let j = c .before .before .before .before .before .before .before .before .before .before .before in j .join-next .kept .1 .0 ∙ j .before .before .before .before .before .before .before .loop .inv .6
+same-length-2 c =
+    let j = c .before .before .before .before .before .before .before .before .before .before .before in
+    j .join-next .kept .1 .0 ∙ j .before .before .before .before .before .before .before .loop .inv .6
 
 same-length-3 : tie.Need-same-length-3 Inv-loop μ-loop
-same-length-3 c = let j = c .before .before .before .before .before .before .before .before .before .before .before in j .join-next .kept .1 .1 .0 ∙ j .before .before .before .before .before .before .before .loop .inv .7
+same-length-3 c =
+    let j = c .before .before .before .before .before .before .before .before .before .before .before in
+    j .join-next .kept .1 .1 .0 ∙ j .before .before .before .before .before .before .before .loop .inv .7
 
 same-length-4 : tie.Need-same-length-4 Inv-loop μ-loop
 same-length-4 c =
     let j = c .before .before .before .before .before .before .before .before .before .before .before in
     let l = j .before .before .before .before .before .before .before .loop in
-    length-front (l .there) (j .join-next .last .1 .1 .1 .0) (l .left) (j .join-next .kept .1 .1 .1 .0) ∙ l .inv .8 ∙ j .before .before .before .before .before .before .before .before .before .before .before .before .before .before .before .fill-range .kept .0
+    length-front (l .there) (j .join-next .last .1 .1 .1 .0) (l .left) (j .join-next .kept .1 .1 .1 .0) ∙ l .inv .8
+    ∙ j .before .before .before .before .before .before .before .before .before .before .before .before .before .before .before .fill-range .kept .0
 
 same-length-5 : tie.Need-same-length-5 Inv-loop μ-loop
 same-length-5 c =
     let j = c .before .before .before .before .before .before .before .before .before .before .before in
-    j .join-next .kept .1 .1 .1 .1 .0 ∙ j .before .before .before .before .before .before .before .loop .inv .9 ∙ j .before .before .before .before .before .before .before .before .before .before .fill-heads .kept .0
+    j .join-next .kept .1 .1 .1 .1 .0 ∙ j .before .before .before .before .before .before .before .loop .inv .9
+    ∙ j .before .before .before .before .before .before .before .before .before .before .fill-heads .kept .0
 
 returns : tie.Need-returns Inv-loop μ-loop
 returns c =
     let j = c .before .before .before .before .before .before .before .before .before .before .before in
-    let l = j .before .before .before .before .before .before .before .loop in
-    let a = j .before .before .before .before .before .before .before .before .before .before .before .before .before .before .before .before .before .before .before .before .before .before .args in
+    let k = j .before .before .before .before .before .before .before in
+    let l = k .loop in
+    let a = k .before .before .before .before .before .before .before .before .before .before .before .before .before .before .before .args in
     let turn = subst (λ m. Turn (a .threshold) m (l .numbers) (l .sizes) (l .bits) (take (l .left) (l .there))
-    (j .join-next .last .0) (j .join-next .last .1 .0) (j .join-next .last .1 .1 .0) (j .join-next .last .1 .1 .1 .0) (j .join-next .last .1 .1 .1 .1 .0)) (not-true _ (c .if1 .taken)) (j .join-next .ensures) in
+    (j .join-next .last .0) (j .join-next .last .1 .0) (j .join-next .last .1 .1 .0)
+    (j .join-next .last .1 .1 .1 .0) (j .join-next .last .1 .1 .1 .1 .0)) (not-true _ (c .if1 .taken)) (j .join-next .ensures) in
     record {
       state = turn-last (a .threshold) (l .numbers) (l .sizes) (l .bits) (take (l .left) (l .there))
-          (j .join-next .last .0) (j .join-next .last .1 .0) (j .join-next .last .1 .1 .0) (j .join-next .last .1 .1 .1 .0) (j .join-next .last .1 .1 .1 .1 .0) turn (l .left) ∙ l .inv .1;
+          (j .join-next .last .0) (j .join-next .last .1 .0) (j .join-next .last .1 .1 .0)
+          (j .join-next .last .1 .1 .1 .0) (j .join-next .last .1 .1 .1 .1 .0) turn (l .left) ∙ l .inv .1;
       sound = turn .sound;
     }
 
@@ -113,17 +124,21 @@ loop-less c = omega arith
 loop-again : tie.Need-loop-again Inv-loop μ-loop
 loop-again c =
     let j = c .before .before .before .before .before .before .before .before .before .before .before in
-    let l = j .before .before .before .before .before .before .before .loop in
-    let a = j .before .before .before .before .before .before .before .before .before .before .before .before .before .before .before .before .before .before .before .before .before .before .args in
+    let k = j .before .before .before .before .before .before .before in
+    let l = k .loop in
+    let a = k .before .before .before .before .before .before .before .before .before .before .before .before .before .before .before .args in
     let turn = subst (λ m. Turn (a .threshold) m (l .numbers) (l .sizes) (l .bits) (take (l .left) (l .there))
-    (j .join-next .last .0) (j .join-next .last .1 .0) (j .join-next .last .1 .1 .0) (j .join-next .last .1 .1 .1 .0) (j .join-next .last .1 .1 .1 .1 .0)) (not-false _ (c .if1 .left)) (j .join-next .ensures) in
+    (j .join-next .last .0) (j .join-next .last .1 .0) (j .join-next .last .1 .1 .0)
+    (j .join-next .last .1 .1 .1 .0) (j .join-next .last .1 .1 .1 .1 .0)) (not-false _ (c .if1 .left)) (j .join-next .ensures) in
     let back : suc (l .left - 1) ≡ l .left = omega arith in (
       turn .sound,
       turn-more (a .threshold) (l .numbers) (l .sizes) (l .bits) (take (l .left) (l .there))
-          (j .join-next .last .0) (j .join-next .last .1 .0) (j .join-next .last .1 .1 .0) (j .join-next .last .1 .1 .1 .0) (j .join-next .last .1 .1 .1 .1 .0) turn (l .left - 1)
+          (j .join-next .last .0) (j .join-next .last .1 .0) (j .join-next .last .1 .1 .0)
+          (j .join-next .last .1 .1 .1 .0) (j .join-next .last .1 .1 .1 .1 .0) turn (l .left - 1)
           ∙ ap (λ n. mergeSteps n (a .threshold) (stateOf (l .numbers) (l .sizes) (l .bits))) back ∙ l .inv .1,
       omega (arith, length-front (l .there) (j .join-next .last .1 .1 .1 .0) (l .left) (j .join-next .kept .1 .1 .1 .0)),
-      list-less (l .there) (j .join-next .last .1 .1 .1 .0) (j .join-next .last .0) (l .left) (l .inv .2) (j .join-next .kept .1 .1 .1 .0) (turn .list refl),
+      list-less (l .there) (j .join-next .last .1 .1 .1 .0) (j .join-next .last .0) (l .left) (l .inv .2)
+          (j .join-next .kept .1 .1 .1 .0) (turn .list refl),
       turn .heads refl,
       j .join-next .kept .0 ∙ l .inv .5,
       j .join-next .kept .1 .0 ∙ l .inv .6,

@@ -8,7 +8,8 @@ use lib.ListN.{length, take}
 use lib.Seq.{length-take-le}
 use Rattle.lists.proofs.KeepLength.{mem-length}
 use Rattle.merge.specs.Search.{held}
-use Rattle.merge.proofs.Turning.{reads-heads, turn-without-seeker, seeker-row, seeker-listed, reads-left, turn-without-target, target-row, join-fits, refresh-fits, turn-with-join}
+use Rattle.merge.proofs.Turning.{reads-heads, turn-without-seeker, seeker-row, seeker-listed, reads-left, turn-without-target, target-row}
+use Rattle.merge.proofs.Turning.{join-fits, refresh-fits, turn-with-join}
 use borrow.Author.Needs.{needs}
 use Rattle.merge.proofs.engine.join_next.Statement.{statement}
 use Rattle.merge.proofs.engine.join_next.Tie as tie
@@ -69,7 +70,8 @@ sub-left c =
     let f = p .before .before in
     let s = f .before .before .before .before .before .before .before .before in
     let a = s .args in
-    let on-list = seeker-listed (a .threshold) (a .numbers .now) (a .sizes .now) (a .bits .now) (a .there .now) (a .heads .now) (s .pre .0) (s .pre .1) (s .pre .2)
+    let on-list = seeker-listed (a .threshold) (a .numbers .now) (a .sizes .now) (a .bits .now) (a .there .now) (a .heads .now)
+    (s .pre .0) (s .pre .1) (s .pre .2)
     (f .find-seeker .result) (f .find-seeker .ensures) (not-false _ (p .if1 .left)) in
     omega (arith, mem-length (on-list .1), c .before .before .remove .kept .0)
 
@@ -92,7 +94,8 @@ find-target-requires c κs =
     let left = take (length (v .remove .last .0) - 1) (v .remove .last .0) in
     let is-left = ap (λ n. take (n - 1) (v .remove .last .0)) (v .remove .kept .0) ∙ v .remove .ensures in
     reads-left (a .threshold) (a .numbers .now) (a .sizes .now) (a .bits .now) (a .there .now) (a .heads .now) (s .pre .0) (s .pre .1) (s .pre .2)
-    (f .find-seeker .result) (f .find-seeker .ensures) (not-false _ (p .if1 .left)) (held (u .subgroup-at .result)) (u .subgroup-at .ensures) left is-left
+    (f .find-seeker .result) (f .find-seeker .ensures) (not-false _ (p .if1 .left))
+    (held (u .subgroup-at .result)) (u .subgroup-at .ensures) left is-left
 
 same-length-3 : tie.Need-same-length-3
 same-length-3 c = search needs
@@ -118,7 +121,9 @@ returns-2 c =
     let left = take (length (v .remove .last .0) - 1) (v .remove .last .0) in
     let is-left = ap (λ n. take (n - 1) (v .remove .last .0)) (v .remove .kept .0) ∙ v .remove .ensures in
     turn-without-target (a .threshold) (a .numbers .now) (a .sizes .now) (a .bits .now) (a .there .now) (a .heads .now) (s .pre .0) (s .pre .1) (s .pre .2)
-    (f .find-seeker .result) (f .find-seeker .ensures) (not-false _ (p .if1 .left)) (held (u .subgroup-at .result)) (u .subgroup-at .ensures) left is-left (d .find-target .result) (d .find-target .ensures) (not-true _ (c .if2 .taken)) (v .remove .last .0)
+    (f .find-seeker .result) (f .find-seeker .ensures) (not-false _ (p .if1 .left))
+    (held (u .subgroup-at .result)) (u .subgroup-at .ensures) left is-left
+    (d .find-target .result) (d .find-target .ensures) (not-true _ (c .if2 .taken)) (v .remove .last .0)
 
 subgroup-at-requires-2 : tie.Need-subgroup-at-requires-2
 subgroup-at-requires-2 c κs =
@@ -133,7 +138,9 @@ subgroup-at-requires-2 c κs =
     let left = take (length (v .remove .last .0) - 1) (v .remove .last .0) in
     let is-left = ap (λ n. take (n - 1) (v .remove .last .0)) (v .remove .kept .0) ∙ v .remove .ensures in
     target-row (a .threshold) (a .numbers .now) (a .sizes .now) (a .bits .now) (a .there .now) (a .heads .now) (s .pre .0) (s .pre .1) (s .pre .2)
-    (f .find-seeker .result) (f .find-seeker .ensures) (not-false _ (p .if1 .left)) (held (u .subgroup-at .result)) (u .subgroup-at .ensures) left is-left (d .find-target .result) (d .find-target .ensures) (not-false _ (q .if2 .left))
+    (f .find-seeker .result) (f .find-seeker .ensures) (not-false _ (p .if1 .left))
+    (held (u .subgroup-at .result)) (u .subgroup-at .ensures) left is-left
+    (d .find-target .result) (d .find-target .ensures) (not-false _ (q .if2 .left))
 
 join-requires : tie.Need-join-requires
 join-requires c κs =
@@ -149,7 +156,9 @@ join-requires c κs =
     let left = take (length (v .remove .last .0) - 1) (v .remove .last .0) in
     let is-left = ap (λ n. take (n - 1) (v .remove .last .0)) (v .remove .kept .0) ∙ v .remove .ensures in
     join-fits (a .threshold) (a .numbers .now) (a .sizes .now) (a .bits .now) (a .there .now) (a .heads .now) (s .pre .0) (s .pre .1) (s .pre .2)
-    (f .find-seeker .result) (f .find-seeker .ensures) (not-false _ (p .if1 .left)) (held (u .subgroup-at .result)) (u .subgroup-at .ensures) left is-left (d .find-target .result) (d .find-target .ensures) (not-false _ (q .if2 .left)) (held (w .subgroup-at2 .result)) (w .subgroup-at2 .ensures)
+    (f .find-seeker .result) (f .find-seeker .ensures) (not-false _ (p .if1 .left))
+    (held (u .subgroup-at .result)) (u .subgroup-at .ensures) left is-left
+    (d .find-target .result) (d .find-target .ensures) (not-false _ (q .if2 .left)) (held (w .subgroup-at2 .result)) (w .subgroup-at2 .ensures)
 
 refresh-requires : tie.Need-refresh-requires
 refresh-requires c κs =
@@ -166,7 +175,9 @@ refresh-requires c κs =
     let left = take (length (v .remove .last .0) - 1) (v .remove .last .0) in
     let is-left = ap (λ n. take (n - 1) (v .remove .last .0)) (v .remove .kept .0) ∙ v .remove .ensures in
     let fits = refresh-fits (a .threshold) (a .numbers .now) (a .sizes .now) (a .bits .now) (a .there .now) (a .heads .now) (s .pre .0) (s .pre .1) (s .pre .2)
-    (f .find-seeker .result) (f .find-seeker .ensures) (not-false _ (p .if1 .left)) (held (u .subgroup-at .result)) (u .subgroup-at .ensures) left is-left (d .find-target .result) (d .find-target .ensures) (not-false _ (q .if2 .left)) (held (w .subgroup-at2 .result)) (w .subgroup-at2 .ensures)
+    (f .find-seeker .result) (f .find-seeker .ensures) (not-false _ (p .if1 .left))
+    (held (u .subgroup-at .result)) (u .subgroup-at .ensures) left is-left
+    (d .find-target .result) (d .find-target .ensures) (not-false _ (q .if2 .left)) (held (w .subgroup-at2 .result)) (w .subgroup-at2 .ensures)
     (j .join .last .0) (j .join .last .1 .0) (j .join .last .1 .1 .0) (j .join .ensures) in
     (fits .0, fits .1, fits .2, fits .4)
 
@@ -186,7 +197,9 @@ refresh-requires-2 c κs =
     let left = take (length (v .remove .last .0) - 1) (v .remove .last .0) in
     let is-left = ap (λ n. take (n - 1) (v .remove .last .0)) (v .remove .kept .0) ∙ v .remove .ensures in
     let fits = refresh-fits (a .threshold) (a .numbers .now) (a .sizes .now) (a .bits .now) (a .there .now) (a .heads .now) (s .pre .0) (s .pre .1) (s .pre .2)
-    (f .find-seeker .result) (f .find-seeker .ensures) (not-false _ (p .if1 .left)) (held (u .subgroup-at .result)) (u .subgroup-at .ensures) left is-left (d .find-target .result) (d .find-target .ensures) (not-false _ (q .if2 .left)) (held (w .subgroup-at2 .result)) (w .subgroup-at2 .ensures)
+    (f .find-seeker .result) (f .find-seeker .ensures) (not-false _ (p .if1 .left))
+    (held (u .subgroup-at .result)) (u .subgroup-at .ensures) left is-left
+    (d .find-target .result) (d .find-target .ensures) (not-false _ (q .if2 .left)) (held (w .subgroup-at2 .result)) (w .subgroup-at2 .ensures)
     (j .join .last .0) (j .join .last .1 .0) (j .join .last .1 .1 .0) (j .join .ensures) in
     (fits .0, fits .1, fits .3, omega (arith, fits .4, r .refresh .kept .0))
 
@@ -200,7 +213,9 @@ same-length-9 : tie.Need-same-length-9
 same-length-9 c = search needs
 
 same-length-10 : tie.Need-same-length-10
-same-length-10 c = c .before .before .before .before .before .before .before .before .before .before .before .before .before .before .before .before .before .before .before .before .before .before .before .before .before .before .before .before .before .before .before .remove .kept .0
+same-length-10 c =
+    let j = c .before .before .before .before .before .before .before .before .before .before .before .before .before .before .before .before in
+    j .before .before .before .before .before .before .before .before .before .before .before .before .before .before .before .remove .kept .0
 
 same-length-11 : tie.Need-same-length-11
 same-length-11 c = search needs
@@ -222,8 +237,11 @@ returns-3 c =
     let left = take (length (v .remove .last .0) - 1) (v .remove .last .0) in
     let is-left = ap (λ n. take (n - 1) (v .remove .last .0)) (v .remove .kept .0) ∙ v .remove .ensures in
     turn-with-join (a .threshold) (a .numbers .now) (a .sizes .now) (a .bits .now) (a .there .now) (a .heads .now) (s .pre .0) (s .pre .1) (s .pre .2)
-    (f .find-seeker .result) (f .find-seeker .ensures) (not-false _ (p .if1 .left)) (held (u .subgroup-at .result)) (u .subgroup-at .ensures) left is-left (d .find-target .result) (d .find-target .ensures) (not-false _ (q .if2 .left)) (held (w .subgroup-at2 .result)) (w .subgroup-at2 .ensures)
-    (j .join .last .0) (j .join .last .1 .0) (j .join .last .1 .1 .0) (v .remove .last .0) (j .join .ensures) (sym (ap (λ n. take (n - 1) (v .remove .last .0)) (v .remove .kept .0)))
+    (f .find-seeker .result) (f .find-seeker .ensures) (not-false _ (p .if1 .left))
+    (held (u .subgroup-at .result)) (u .subgroup-at .ensures) left is-left
+    (d .find-target .result) (d .find-target .ensures) (not-false _ (q .if2 .left)) (held (w .subgroup-at2 .result)) (w .subgroup-at2 .ensures)
+    (j .join .last .0) (j .join .last .1 .0) (j .join .last .1 .1 .0) (v .remove .last .0) (j .join .ensures)
+    (sym (ap (λ n. take (n - 1) (v .remove .last .0)) (v .remove .kept .0)))
     (r .refresh .last .0) (x .refresh2 .last .0) (r .refresh .kept .0) (x .refresh2 .kept .0) (r .refresh .ensures) (x .refresh2 .ensures)
 
 pub join-next-spec : {M : Type 1} → statement M

@@ -53,7 +53,8 @@ returns-3 c =
     let yes₂ : seeksAt (a .threshold) (a .sizes .now) (a .best) ≡ true =
     sym (two .before .seeks2 .ensures ∙ ap (seeking (a .threshold)) (two .before .before .seeker-at2 .ensures)) ∙ not-false _ (two .if2 .left) in
     let first : seeksBefore (a .sizes .now) (a .i) (a .best) ≡ true =
-    sym (c .before .comes-before .ensures ∙ ap₂ comesFirst (one .before .before .seeker-at .ensures) (two .before .before .seeker-at2 .ensures)) ∙ c .if3 .taken in
+    sym (c .before .comes-before .ensures
+    ∙ ap₂ comesFirst (one .before .before .seeker-at .ensures) (two .before .before .seeker-at2 .ensures)) ∙ c .if3 .taken in
     rw (yes, yes₂, first)
 
 returns-4 : tie.Need-returns-4
@@ -67,7 +68,8 @@ returns-4 c =
     let yes₂ : seeksAt (a .threshold) (a .sizes .now) (a .best) ≡ true =
     sym (two .before .seeks2 .ensures ∙ ap (seeking (a .threshold)) (two .before .before .seeker-at2 .ensures)) ∙ not-false _ (two .if2 .left) in
     let later : seeksBefore (a .sizes .now) (a .i) (a .best) ≡ false =
-    sym (c .before .comes-before .ensures ∙ ap₂ comesFirst (one .before .before .seeker-at .ensures) (two .before .before .seeker-at2 .ensures)) ∙ c .if3 .left in
+    sym (c .before .comes-before .ensures
+    ∙ ap₂ comesFirst (one .before .before .seeker-at .ensures) (two .before .before .seeker-at2 .ensures)) ∙ c .if3 .left in
     rw (yes, yes₂, later)
 
 pub ahead-spec : {M : Type 1} → statement M

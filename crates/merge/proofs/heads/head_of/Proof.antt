@@ -43,14 +43,16 @@ loop-again : tie.Need-loop-again Inv-loop μ-loop
 loop-again c =
     let l = c .before .before .loop in
     let s = c .before .before .before .before .before in
-    (omega arith, looked-more (s .args .threshold) (s .args .sizes .now) (s .pre .0) (16 * s .args .block) (l .i) (l .best) (c .ahead .result) (c .ahead .ensures) (l .inv .1))
+    let looked = looked-more (s .args .threshold) (s .args .sizes .now) (s .pre .0) (16 * s .args .block) (l .i) (l .best) in
+    (omega arith, looked (c .ahead .result) (c .ahead .ensures) (l .inv .1))
 
 returns : tie.Need-returns Inv-loop μ-loop
 returns c =
     let l = c .before .loop in
     let e = c .before .before .block-end .ensures in
     let s = c .before .before .before .before in
-    looked-all (s .args .threshold) (s .args .sizes .now) (s .args .block) (l .i) (l .best) (l .inv .1) (omega (arith, l .inv .0, e .1)) (omega (arith, l .inv .0, e .2))
+    looked-all (s .args .threshold) (s .args .sizes .now) (s .args .block) (l .i) (l .best) (l .inv .1)
+    (omega (arith, l .inv .0, e .1)) (omega (arith, l .inv .0, e .2))
     (λ h. omega (arith, e .3 (omega arith)))
 
 pub head-of-spec : {M : Type 1} → statement M

@@ -24,7 +24,8 @@ same-length c = search needs
 returns : tie.Need-returns
 returns c =
     let s = c .before .before .before in
-    head-written (s .args .threshold) (s .args .sizes .now) (s .args .heads .now) (s .args .number / 16) (c .head-of .result) (omega (arith, s .pre .2, s .pre .3)) (c .head-of .ensures)
+    head-written (s .args .threshold) (s .args .sizes .now) (s .args .heads .now) (s .args .number / 16) (c .head-of .result)
+    (omega (arith, s .pre .2, s .pre .3)) (c .head-of .ensures)
 
 pub refresh-spec : {M : Type 1} → statement M
 refresh-spec =

@@ -1,19 +1,20 @@
 -- The invariant: the best so far is the nearest of the first i numbers of the list. The measure is the numbers left.
 use Prim.Native.Nat.{_-_, _≤_}
 use mathlib.Core.List.{map}
+use mathlib.Core.Option.{some}
 use mathlib.Core.Path.{_≡_, ap, _∙_}
 use native.Mathlib.Omega.{arith}
 use lib.ListN.{length, getD, take}
 use lib.Seq.{take-all}
 use Rattle.lists.specs.Least.{least}
-use Rattle.merge.specs.Search.{comesFirst, targetAt, foundOf}
-use Rattle.merge.proofs.There.{search-none, search-more}
+use Rattle.merge.specs.Search.{comesFirst, targetAt, foundOf, looked}
+use Rattle.merge.proofs.There.{search-empty, search-one, search-more}
 use Rattle.merge.proofs.search.find_target.Statement.{statement}
 use Rattle.merge.proofs.search.find_target.Tie as tie
 
 abbrev Inv-loop : tie.InvT-loop
 Inv-loop there sizes bits wanted best₀ i₀ best i =
-    (i ≤ length there) × (foundOf best ≡ least comesFirst (map (targetAt sizes bits wanted) (take i there)))
+    (i ≤ length there) × (some best ≡ least comesFirst (map (targetAt sizes bits wanted) (take i there)))
 
 abbrev μ-loop : tie.MeasureT-loop
 μ-loop there sizes bits wanted best₀ i₀ best i = length there - i
@@ -21,10 +22,27 @@ abbrev μ-loop : tie.MeasureT-loop
 nothing-requires : tie.Need-nothing-requires Inv-loop μ-loop
 nothing-requires c κs = tt
 
+returns : tie.Need-returns Inv-loop μ-loop
+returns c =
+    let a = c .before .before .before .before .before .args in
+    c .nothing .ensures ∙ search-empty (targetAt (a .sizes .now) (a .bits .now) (a .wanted)) comesFirst (a .there .now) (c .before .if1 .taken)
+
+shared-slice-read-target-at : tie.Need-shared-slice-read-target-at Inv-loop μ-loop
+shared-slice-read-target-at c = omega arith
+
+cast-target-at : tie.Need-cast-target-at Inv-loop μ-loop
+cast-target-at c = omega (arith, c .shared-slice-known4 .given 0)
+
+target-at-requires : tie.Need-target-at-requires Inv-loop μ-loop
+target-at-requires c κs =
+    let s = c .before .before .before .before .before in
+    let h = s .pre .0 .inside 0 (omega arith) in
+    record { has-size = h; has-bits = omega (arith, s .pre .1); exact = s .pre .0 .exact (getD (s .args .there .now) 0 0) h }
+
 loop-holds : tie.Need-loop-holds Inv-loop μ-loop
 loop-holds c =
-    let a = c .before .before .before .before .args in
-    (omega arith, c .nothing .ensures ∙ search-none (targetAt (a .sizes .now) (a .bits .now) (a .wanted)) comesFirst (a .there .now))
+    let a = c .before .before .before .before .before .before .args in
+    (omega arith, ap some (c .target-at .ensures) ∙ search-one (targetAt (a .sizes .now) (a .bits .now) (a .wanted)) comesFirst (a .there .now) (omega arith))
 
 mul-or-target : tie.Need-mul-or-target Inv-loop μ-loop
 mul-or-target c = omega arith
@@ -33,13 +51,14 @@ shared-slice-read-or-target : tie.Need-shared-slice-read-or-target Inv-loop μ-l
 shared-slice-read-or-target c = omega arith
 
 cast-or-target : tie.Need-cast-or-target Inv-loop μ-loop
-cast-or-target c = omega (arith, c .shared-slice-known4 .given (c .before .before .loop .i))
+cast-or-target c = omega (arith, c .shared-slice-known5 .given (c .before .before .loop .i))
 
 or-target-requires : tie.Need-or-target-requires Inv-loop μ-loop
 or-target-requires c κs =
-    let s = c .before .before .before .before .before .before .before in
-    let h = s .pre .0 .inside (c .before .before .loop .i) (omega arith) in
-    record { has-size = h; has-bits = omega (arith, s .pre .1); exact = s .pre .0 .exact (getD (s .args .there .now) (c .before .before .loop .i) 0) h }
+    let s = c .before .before .before .before .before .before .before .before .before in
+    let i = c .before .before .loop .i in
+    let h = s .pre .0 .inside i (omega arith) in
+    record { has-size = h; has-bits = omega (arith, s .pre .1); exact = s .pre .0 .exact (getD (s .args .there .now) i 0) h }
 
 add-i : tie.Need-add-i Inv-loop μ-loop
 add-i c = omega arith
@@ -48,17 +67,20 @@ loop-less : tie.Need-loop-less Inv-loop μ-loop
 loop-less c = omega arith
 
 loop-again : tie.Need-loop-again Inv-loop μ-loop
+unfolding looked
 loop-again c =
     let l = c .before .before .before .loop in
-    let a = c .before .before .before .before .before .before .before .before .args in (
+    let a = c .before .before .before .before .before .before .before .before .before .before .args in (
       omega arith,
-      search-more (targetAt (a .sizes .now) (a .bits .now) (a .wanted)) comesFirst (a .there .now) (l .i) (omega arith) (foundOf (l .best)) (foundOf (c .or-target .result)) (l .inv .1) (c .or-target .ensures),
+      search-more (targetAt (a .sizes .now) (a .bits .now) (a .wanted)) comesFirst (a .there .now) (l .i) (omega arith)
+          (some (l .best)) (some (c .or-target .result)) (l .inv .1) (ap some (c .or-target .ensures)),
     )
 
-returns : tie.Need-returns Inv-loop μ-loop
-returns c =
-    let a = c .before .before .before .before .before .before .args in
+returns-2 : tie.Need-returns-2 Inv-loop μ-loop
+unfolding foundOf
+returns-2 c =
     let l = c .before .loop in
+    let a = c .before .before .before .before .before .before .before .before .args in
     l .inv .1 ∙ ap (λ t. least comesFirst (map (targetAt (a .sizes .now) (a .bits .now) (a .wanted)) t)) (take-all (l .i) (a .there .now) (omega arith))
 
 pub find-target-spec : {M : Type 1} → statement M
@@ -68,6 +90,10 @@ find-target-spec =
     Inv-loop
     μ-loop
     nothing-requires
+    returns
+    shared-slice-read-target-at
+    cast-target-at
+    target-at-requires
     loop-holds
     mul-or-target
     shared-slice-read-or-target
@@ -76,4 +102,4 @@ find-target-spec =
     add-i
     loop-less
     loop-again
-    returns)
+    returns-2)

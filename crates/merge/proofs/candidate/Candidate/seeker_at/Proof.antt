@@ -3,8 +3,8 @@ use mathlib.Core.Path.{ap}
 use lib.Ieee.{Float}
 use Rattle.merge.specs.Search.{seekerAt}
 use Rattle.merge.specs.declared.candidate.Candidate.{Candidate}
-use Rattle.merge.proofs.heads.seeker_at.Statement.{statement}
-use Rattle.merge.proofs.heads.seeker_at.Tie as tie
+use Rattle.merge.proofs.candidate.Candidate.seeker_at.Statement.{statement}
+use Rattle.merge.proofs.candidate.Candidate.seeker_at.Tie as tie
 
 size-at-requires : tie.Need-size-at-requires
 size-at-requires c κs = let s = c .before in (s .pre .1, s .pre .0 (s .args .i) (s .pre .1))
