@@ -22,3 +22,7 @@ pub mod Dealing
 pub mod DigitOrder
 pub mod Differing
 pub mod Passes
+pub mod Growing
+pub mod FindingParts
+pub mod PartOrder
+pub mod LayingParts

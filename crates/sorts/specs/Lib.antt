@@ -6,3 +6,4 @@ pub mod Keys
 pub mod Ascending
 pub mod Digits
 pub mod Insertion
+pub mod Parts
