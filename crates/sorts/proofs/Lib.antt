@@ -1,11 +1,7 @@
--- The laws of merging, of sorted lists and of sorting by digits, and what the proofs of the code cite.
-pub mod Merging
-pub mod Ascending
-pub mod InOrder
+-- The laws of sorted lists, and of sorting by insertion, by digits and by parts, and what the proofs of the code cite.
 pub mod Neighbours
 pub mod Orders
 pub mod SameKey
-pub mod Steps
 pub mod Copying
 pub mod Halves
 pub mod Naming
