@@ -147,10 +147,7 @@ pub fn answer(
     threshold: &[f64],
     answers: &[u32],
     lent: Lent,
-)
-    requires { ⌜ (lent .«chunk_of» ≤ 128) × (lent .«next_of» ≤ 128) × (lent .«first_of» ≤ 128) × (lent .«group_of» ≤ 128)
-        × (lent .«name_of» ≤ 128) × (lent .«size_of» ≤ 128) × (lent .«bits_of» ≤ 512) × (lent .scratch ≤ 73728) ⌝ }
-{
+) {
     let mut chunk_of = [areas::NUMBER; 128];
     let mut next_of = [areas::NUMBER; 128];
     let mut first_of = [areas::NUMBER; 128];
@@ -159,14 +156,6 @@ pub fn answer(
     let mut size_of = [areas::SIZE; 128];
     let mut bits_of = [areas::WORD; 512];
     let mut scratch = [areas::NUMBER; 73728];
-    let a = lent.chunk_of;
-    let b = lent.next_of;
-    let c = lent.first_of;
-    let d = lent.group_of;
-    let e = lent.name_of;
-    let f = lent.size_of;
-    let g = lent.bits_of;
-    let h = lent.scratch;
     let answer = plainsplit::split(
         counts.n,
         counts.g,
@@ -196,21 +185,21 @@ pub fn answer(
         threshold,
         answers,
         counts.on_entry,
-        &mut chunk_of[..a],
-        &mut next_of[..b],
-        &mut first_of[..c],
-        &mut group_of[..d],
-        &mut name_of[..e],
-        &mut size_of[..f],
-        &mut bits_of[..g],
-        &mut scratch[..h],
+        areas::lent_numbers(&mut chunk_of, lent.chunk_of),
+        areas::lent_numbers(&mut next_of, lent.next_of),
+        areas::lent_numbers(&mut first_of, lent.first_of),
+        areas::lent_numbers(&mut group_of, lent.group_of),
+        areas::lent_numbers(&mut name_of, lent.name_of),
+        areas::lent_sizes(&mut size_of, lent.size_of),
+        areas::lent_words(&mut bits_of, lent.bits_of),
+        areas::lent_numbers(&mut scratch, lent.scratch),
     );
     out::begin(b"chunks", tag);
     show(
         tag,
         answer,
         least(counts.n, 128),
-        h,
+        lent.scratch,
         &chunk_of,
         &next_of,
         &first_of,

@@ -3,7 +3,6 @@ use buildcalls::Counts;
 use buildcalls::Lent;
 use buildlines::rows;
 use options::Options;
-ghost use Prim.Native.Nat.{_≤_};
 
 // How many entries of each table are handed over, of bits in words.
 struct Lengths {
@@ -27,15 +26,6 @@ struct Lengths {
     priority: usize,
     threshold: usize,
     answers: usize,
-}
-
-fn least(a: usize, b: usize) -> usize
-    ensures { λ r. ⌜ r ≤ b ⌝ }
-{
-    if a < b {
-        return a;
-    }
-    b
 }
 
 fn counts_of(counts: &[usize; 6]) -> Counts {
@@ -74,20 +64,16 @@ fn lengths_of(lengths: &[usize; 20]) -> Lengths {
     }
 }
 
-// What was read is never more than there is.
-fn lent_of(areas: &[usize; 8]) -> Lent
-    ensures { λ r. ⌜ (r .«chunk_of» ≤ 128) × (r .«next_of» ≤ 128) × (r .«first_of» ≤ 128) × (r .«group_of» ≤ 128)
-        × (r .«name_of» ≤ 128) × (r .«size_of» ≤ 128) × (r .«bits_of» ≤ 512) × (r .scratch ≤ 73728) ⌝ }
-{
+fn lent_of(areas: &[usize; 8]) -> Lent {
     Lent {
-        chunk_of: least(areas[0], 128),
-        next_of: least(areas[1], 128),
-        first_of: least(areas[2], 128),
-        group_of: least(areas[3], 128),
-        name_of: least(areas[4], 128),
-        size_of: least(areas[5], 128),
-        bits_of: least(areas[6], 512),
-        scratch: least(areas[7], 73728),
+        chunk_of: areas[0],
+        next_of: areas[1],
+        first_of: areas[2],
+        group_of: areas[3],
+        name_of: areas[4],
+        size_of: areas[5],
+        bits_of: areas[6],
+        scratch: areas[7],
     }
 }
 

@@ -1,17 +1,18 @@
 // A line for each chunk: its number, group, name and size, then its modules in execution order.
+use textform::out;
 
 pub fn refused(condition: u32) {
-    lines::text(b"refused ");
-    lines::number(condition as u64);
-    lines::text(b"\n");
+    out::text(b"refused ");
+    out::number(condition as u64);
+    out::line_end();
 }
 
 fn number(n: u32) {
-    lines::number(n as u64);
+    out::number(n as u64);
 }
 
 fn column(n: u32) {
-    lines::text(b" ");
+    out::blank();
     number(n);
 }
 
@@ -58,10 +59,9 @@ fn chunk(first: u32, group: u32, name: u32, size: f64, chunk_of: &[u32], next_of
     chunk_number(first - 1, chunk_of);
     column(group);
     column(name);
-    lines::text(b" ");
-    lines::size(size);
+    out::size(size);
     modules(first, next_of);
-    lines::text(b"\n");
+    out::line_end();
 }
 
 // The record of a chunk.
@@ -106,7 +106,7 @@ pub fn chunks(
     name_of: &[u32],
     size_of: &[f64],
 ) {
-    lines::text(b"chunk group name size modules\n");
+    out::text(b"chunk group name size modules\n");
     let mut at = 0;
     while at < count {
         record(at, chunk_of, next_of, first_of, group_of, name_of, size_of);

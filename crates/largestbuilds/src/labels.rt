@@ -1,58 +1,72 @@
 // What is changed in the largest build, in the order of the refusals.
 use textform::out;
+use textform::words;
+use textform::words::Span;
+use textform::words::Stop;
 
-fn input(change: usize) {
-    match change {
-        0 => out::text(b"largest build"),
-        1 => out::text(b"4097 modules"),
-        2 => out::text(b"65 groups"),
-        3 => out::text(b"257 entries"),
-        4 => out::text(b"65536 names"),
-        5 => out::text(b"65536 records"),
-        6 => out::text(b"an answer too few"),
-        7 => out::text(b"last offset past the end"),
-        8 => out::text(b"first id of 1025 bytes"),
-        9 => out::text(b"last id as the second"),
-        10 => out::text(b"last order as the first"),
-        _ => out::text(b"last size one more"),
+// Where the next line begins; the end after the last.
+fn next_line(text: &[u8], from: usize) -> usize {
+    let end = words::find(text, from, Stop::LineEnd);
+    if end < text.len() {
+        return end + 1;
     }
+    end
+}
+
+fn write_line(text: &[u8], number: usize) {
+    let mut from = 0;
+    let mut i = 0;
+    while i < number {
+        from = next_line(text, from);
+        i = i + 1;
+    }
+    let to = words::find(text, from, Stop::LineEnd);
+    out::text(words::part(text, Span { from, to }));
+}
+
+fn counts(change: usize) {
+    write_line(
+        b"largest build\n4097 modules\n65 groups\n257 entries\n65536 names\n65536 records\nan answer too few\n",
+        change,
+    );
+}
+
+fn modules(change: usize) {
+    write_line(
+        b"last offset past the end\nfirst id of 1025 bytes\nlast id as the second\nlast order as the first\nlast size one more\n",
+        change,
+    );
 }
 
 fn records(change: usize) {
-    match change {
-        12 => out::text(b"last first record past the end"),
-        13 => out::text(b"last next past the end"),
-        14 => out::text(b"last record's module past the end"),
-        15 => out::text(b"chain without an end"),
-        16 => out::text(b"last threshold not a number"),
-        17 => out::text(b"last flags 11"),
-        18 => out::text(b"255 entries"),
-        19 => out::text(b"last answer past the names"),
-        _ => out::text(b"65536 chunks on entry"),
-    }
+    write_line(
+        b"last first record past the end\nlast next past the end\nlast record's module past the end\nchain without an end\n",
+        change,
+    );
+}
+
+fn values(change: usize) {
+    write_line(
+        b"last threshold not a number\nlast flags 11\n255 entries\nlast answer past the names\n65536 chunks on entry\n",
+        change,
+    );
 }
 
 fn areas(change: usize) {
-    match change {
-        21 => out::text(b"chunk_of one short"),
-        22 => out::text(b"next_of one short"),
-        23 => out::text(b"first_of one short"),
-        24 => out::text(b"group_of one short"),
-        25 => out::text(b"name_of one short"),
-        26 => out::text(b"size_of one short"),
-        27 => out::text(b"bits_of one short"),
-        _ => out::text(b"scratch one short"),
-    }
+    write_line(
+        b"chunk_of\nnext_of\nfirst_of\ngroup_of\nname_of\nsize_of\nbits_of\nscratch\n",
+        change,
+    );
+    out::text(b" one short");
 }
 
 pub fn label(change: usize) {
-    if change <= 11 {
-        input(change);
-        return;
+    match change {
+        0..=6 => counts(change),
+        7..=11 => modules(change - 7),
+        12..=15 => records(change - 12),
+        16..=20 => values(change - 16),
+        21..=28 => areas(change - 21),
+        _ => {}
     }
-    if change <= 20 {
-        records(change);
-        return;
-    }
-    areas(change);
 }

@@ -38,14 +38,6 @@ pub fn lend(
     let mut size_of = [areas::SIZE; 4099];
     let mut bits_of = [areas::WORD; 16396];
     let mut scratch = [areas::NUMBER; 393219];
-    let a = lent.chunk_of;
-    let b = lent.next_of;
-    let c = lent.first_of;
-    let d = lent.group_of;
-    let e = lent.name_of;
-    let f = lent.size_of;
-    let g = lent.bits_of;
-    let h = lent.scratch;
     let answer = plainsplit::split(
         counts.n,
         counts.g,
@@ -75,14 +67,14 @@ pub fn lend(
         threshold,
         answers,
         counts.on_entry,
-        &mut chunk_of[..a],
-        &mut next_of[..b],
-        &mut first_of[..c],
-        &mut group_of[..d],
-        &mut name_of[..e],
-        &mut size_of[..f],
-        &mut bits_of[..g],
-        &mut scratch[..h],
+        areas::lent_numbers(&mut chunk_of, lent.chunk_of),
+        areas::lent_numbers(&mut next_of, lent.next_of),
+        areas::lent_numbers(&mut first_of, lent.first_of),
+        areas::lent_numbers(&mut group_of, lent.group_of),
+        areas::lent_numbers(&mut name_of, lent.name_of),
+        areas::lent_sizes(&mut size_of, lent.size_of),
+        areas::lent_words(&mut bits_of, lent.bits_of),
+        areas::lent_numbers(&mut scratch, lent.scratch),
     );
     show::show(
         answer,

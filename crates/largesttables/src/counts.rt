@@ -77,7 +77,6 @@ pub fn counts_of(change: usize) -> Counts
 // What is needed, but one less under the change of an area.
 fn one_less(needed: usize, change: usize, of_area: usize) -> usize
     requires { ⌜ 1 ≤ needed ⌝ }
-    ensures { λ r. ⌜ r ≤ needed ⌝ }
 {
     if change == of_area {
         return needed - 1;
@@ -85,11 +84,8 @@ fn one_less(needed: usize, change: usize, of_area: usize) -> usize
     needed
 }
 
-// Areas for 4,096 modules, of arrays with three entries more. 64 pairs of a group and a name need (64 + 32) * 4,096 words of scratch.
-pub fn lent_under(change: usize) -> Lent
-    ensures { λ r. ⌜ (r .«chunk_of» ≤ 4099) × (r .«next_of» ≤ 4099) × (r .«first_of» ≤ 4099) × (r .«group_of» ≤ 4099)
-        × (r .«name_of» ≤ 4099) × (r .«size_of» ≤ 4099) × (r .«bits_of» ≤ 16396) × (r .scratch ≤ 393219) ⌝ }
-{
+// Areas for 4,096 modules. 64 pairs of a group and a name need (64 + 32) * 4,096 words of scratch.
+pub fn lent_under(change: usize) -> Lent {
     Lent {
         chunk_of: one_less(4096, change, 21),
         next_of: one_less(4096, change, 22),

@@ -2,6 +2,7 @@
 use cut::Cut;
 use cut::CutAnswer;
 use index::ModuleIdx;
+use tablecalls::looks;
 use textform::doubles;
 use textform::numbers;
 use textform::numbers::Field;
@@ -18,10 +19,10 @@ fn read_module(
     m: ModuleIdx,
     ids: &mut [u8; 16384],
     from: usize,
-    offsets: &mut [u32; 257],
-    sizes: &mut [u64; 256],
+    offsets: &mut [u32; 4099],
+    sizes: &mut [u64; 4098],
 ) -> Field
-    requires { ⌜ (m .0 < 256) × (from ≤ 16384) ⌝ }
+    requires { ⌜ (m .0 < 4097) × (from ≤ 16384) ⌝ }
     ensures { λ r. ⌜ r .value ≤ 16384 ⌝ }
 {
     let id = pairs::read(line, at, ids, from);
@@ -35,16 +36,16 @@ fn read_module(
     }
 }
 
-// The ids one after another, their offsets, and the sizes. Answers the place past the last word.
+// The ids one after another, their offsets, and the sizes. Answers how many bytes the ids have, and the place past the last word.
 fn read_modules(
     line: &[u8],
     at: usize,
     n: usize,
     ids: &mut [u8; 16384],
-    offsets: &mut [u32; 257],
-    sizes: &mut [u64; 256],
-) -> usize
-    requires { ⌜ n ≤ 256 ⌝ }
+    offsets: &mut [u32; 4099],
+    sizes: &mut [u64; 4098],
+) -> Field
+    requires { ⌜ n ≤ 4097 ⌝ }
 {
     let mut place = at;
     let mut end = 0;
@@ -56,42 +57,96 @@ fn read_modules(
         end = module.value as usize;
         i = i + 1;
     }
-    place
+    Field {
+        value: end as u64,
+        at: place,
+    }
 }
 
-pub fn answered(tag: &[u8], line: &[u8]) -> bool {
-    let count = numbers::decimal_within(line, 0, 256);
+fn wide(n: u32) -> usize {
+    n as usize
+}
+
+fn short(n: usize) -> u32 {
+    if n <= 4294967295 {
+        return n as u32;
+    }
+    4294967295
+}
+
+// Other offsets, if a line has them.
+fn spoil_offsets(with: &[u8], n: usize, offsets: &mut [u32; 4099])
+    requires { ⌜ n ≤ 4097 ⌝ }
+{
+    let mut i = 0;
+    while i <= n {
+        let written = wide(offsets[i]);
+        offsets[i] = short(withlines::offset(with, i, written));
+        i = i + 1;
+    }
+}
+
+// Whether every line that spoils the call is one that it can have.
+fn all_known(with: &[u8], n: usize) -> bool
+    requires { ⌜ n ≤ 4097 ⌝ }
+{
+    let moved = withlines::known(with, b"offsets", b"", n + 1);
+    let offsets = withlines::known(with, b"len", b"offsets", 1);
+    let sizes = withlines::known(with, b"len", b"sizes", 1);
+    let count = withlines::known(with, b"count", b"n", 1);
+    looks::sum(looks::sum(moved, offsets), looks::sum(sizes, count)) == withlines::all(with)
+}
+
+// A case, and the lines before it that spoil it.
+pub fn answered(tag: &[u8], line: &[u8], with: &[u8]) -> bool {
+    let count = numbers::decimal_within(line, 0, 4097);
     let n = count.value as usize;
     let minimum = doubles::double(line, count.at);
     let maximum = doubles::double(line, minimum.at);
     let mut ids = [0u8; 16384];
-    let mut offsets = [0u32; 257];
-    let mut sizes = [0u64; 256];
-    let place = read_modules(line, maximum.at, n, &mut ids, &mut offsets, &mut sizes);
-    if !words::ended(line, place) {
+    let mut offsets = [0u32; 4099];
+    let mut sizes = [0u64; 4098];
+    let listed = read_modules(line, maximum.at, n, &mut ids, &mut offsets, &mut sizes);
+    if !words::ended(line, listed.at) {
         return false;
     }
+    if !all_known(with, n) {
+        return false;
+    }
+    spoil_offsets(with, n, &mut offsets);
     out::begin(b"cut", tag);
-    run(n, &ids, &offsets, &sizes, minimum.value, maximum.value);
+    let bytes = listed.value as usize;
+    run(
+        with,
+        n,
+        &ids,
+        bytes,
+        &offsets,
+        &sizes,
+        minimum.value,
+        maximum.value,
+    );
     true
 }
 
 // The call and its answer.
 fn run(
+    with: &[u8],
     n: usize,
     ids: &[u8; 16384],
-    offsets: &[u32; 257],
-    sizes: &[u64; 256],
+    bytes: usize,
+    offsets: &[u32; 4099],
+    sizes: &[u64; 4098],
     minimum: f64,
     maximum: f64,
 )
-    requires { ⌜ n ≤ 256 ⌝ }
+    requires { ⌜ n ≤ 4097 ⌝ }
 {
     let answer = cut::pick_relevance_split_index(
-        n,
-        ids,
-        parts::shorts(offsets, n + 1),
-        parts::longs(sizes, n),
+        withlines::count(with, b"n", n),
+        parts::bytes(ids, bytes),
+        parts::shorts(offsets, withlines::length(with, b"offsets", n + 1)),
+        parts::longs(sizes, withlines::length(with, b"sizes", n)),
         minimum,
         maximum,
     );

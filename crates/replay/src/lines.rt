@@ -1,4 +1,4 @@
-// The cases, one a line. Empty lines and those that begin with # are passed over.
+// The cases, one a line, each after the lines that spoil it. Empty lines and those that begin with # are passed over.
 use crate::cuts;
 use crate::filters;
 use crate::similar;
@@ -11,54 +11,72 @@ use textform::words::Stop;
 
 pub fn answer_all(input: &[u8]) {
     let mut at = 0;
+    let mut with = 0;
     let mut number: u64 = 0;
     while at < input.len() {
         let end = words::find(input, at, Stop::LineEnd);
+        let next = end + 1;
         number = number + 1;
-        answer_line(words::part(input, Span { from: at, to: end }), number);
-        at = end + 1;
+        let before = words::part(input, Span { from: with, to: at });
+        let line = words::part(input, Span { from: at, to: end });
+        with = answer_line(line, before, number, with, next);
+        at = next;
     }
 }
 
-fn answer_line(line: &[u8], number: u64) {
+// Answers where the text begins that may spoil the next case: where it began, or past this line, if that is a case.
+fn answer_line(line: &[u8], before: &[u8], number: u64, with: usize, next: usize) -> usize {
     let first = words::word(line, 0);
     let command = words::part(line, first);
     if passed_over(command) {
-        return;
+        return with;
     }
     let tag = words::word(line, first.to);
     let rest = Span {
         from: tag.to,
         to: line.len(),
     };
-    if !answered(command, words::part(line, tag), words::part(line, rest)) {
+    if !answered(
+        command,
+        words::part(line, tag),
+        words::part(line, rest),
+        before,
+    ) {
         out::unread(number);
     }
+    next
 }
 
+// Lines that spoil a case are read with it.
 fn passed_over(command: &[u8]) -> bool {
     if command.len() == 0 {
         return true;
     }
-    command[0] == b'#'
+    if command[0] == b'#' {
+        return true;
+    }
+    check::same(command, b"with")
 }
 
 // Runs a case, if it can be read and is within the limits. Answers whether it was.
-fn answered(command: &[u8], tag: &[u8], rest: &[u8]) -> bool {
+fn answered(command: &[u8], tag: &[u8], rest: &[u8], with: &[u8]) -> bool {
+    if check::same(command, b"cut") {
+        return cuts::answered(tag, rest, with);
+    }
+    if check::same(command, b"merge") {
+        return merges::answered(tag, rest, with);
+    }
+    if check::same(command, b"capture") {
+        return captures::answered(tag, rest, with);
+    }
+    if withlines::all(with) != 0 {
+        return false;
+    }
     if check::same(command, b"sim") {
         return similar::answered(tag, rest);
     }
-    if check::same(command, b"cut") {
-        return cuts::answered(tag, rest);
-    }
-    if check::same(command, b"merge") {
-        return merges::answered(tag, rest);
-    }
     if check::same(command, b"filter") {
         return filters::answered(tag, rest);
-    }
-    if check::same(command, b"capture") {
-        return captures::answered(tag, rest);
     }
     false
 }

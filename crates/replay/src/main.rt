@@ -1,5 +1,7 @@
-// Runs recorded cases of the leaf calls: reads one case a line from standard input, and writes each answer in the form of the records.
-// Limits: an input of less than 1,048,576 bytes; in a case 256 modules or subgroups, 1,024 dependency records, 16,384 bytes of ids.
+// Runs recorded cases of the leaf calls: reads one case a line from standard input, after the lines that spoil it, and writes each answer in
+// the form of the records. Every entry of every lent area is looked at; what is wrong is a line that begins with `!`.
+// Limits: an input of less than 1,048,576 bytes; in a case 4,097 modules or subgroups, 65,535 dependency records, 16,384 bytes of ids, areas of
+// 4,100 entries.
 mod cuts;
 mod filters;
 mod lines;

@@ -1,7 +1,9 @@
 // capture TAG N D RECURSIVE START, then N flags, N first records, D times: MODULE NEXT
+use crate::looks;
 use capture::CaptureAnswer;
 use index::ModuleIdx;
 use index::RecordIdx;
+use listform::areas;
 use textform::numbers;
 use textform::out;
 use textform::parts;
@@ -9,8 +11,8 @@ use textform::words;
 ghost use Prim.Native.Nat.{_≤_};
 
 // The flag bytes. Answers the place past the last word, as each reader here does.
-fn read_flags(line: &[u8], at: usize, n: usize, flags: &mut [u8; 256]) -> usize
-    requires { ⌜ n ≤ 256 ⌝ }
+fn read_flags(line: &[u8], at: usize, n: usize, flags: &mut [u8; 4098]) -> usize
+    requires { ⌜ n ≤ 4097 ⌝ }
 {
     let mut place = at;
     let mut i = 0;
@@ -23,8 +25,8 @@ fn read_flags(line: &[u8], at: usize, n: usize, flags: &mut [u8; 256]) -> usize
     place
 }
 
-fn read_first(line: &[u8], at: usize, n: usize, first: &mut [u32; 256]) -> usize
-    requires { ⌜ n ≤ 256 ⌝ }
+fn read_first(line: &[u8], at: usize, n: usize, first: &mut [u32; 4098]) -> usize
+    requires { ⌜ n ≤ 4097 ⌝ }
 {
     let mut place = at;
     let mut i = 0;
@@ -42,10 +44,10 @@ fn read_record(
     line: &[u8],
     at: usize,
     r: RecordIdx,
-    dependency: &mut [u32; 1025],
-    next: &mut [u32; 1025],
+    dependency: &mut [u32; 65538],
+    next: &mut [u32; 65538],
 ) -> usize
-    requires { ⌜ r .0 ≤ 1024 ⌝ }
+    requires { ⌜ r .0 ≤ 65535 ⌝ }
 {
     let module = numbers::decimal_within(line, at, 4294967295);
     let after = numbers::decimal_within(line, module.at, 4294967295);
@@ -59,10 +61,10 @@ fn read_records(
     line: &[u8],
     at: usize,
     d: usize,
-    dependency: &mut [u32; 1025],
-    next: &mut [u32; 1025],
+    dependency: &mut [u32; 65538],
+    next: &mut [u32; 65538],
 ) -> usize
-    requires { ⌜ d ≤ 1024 ⌝ }
+    requires { ⌜ d ≤ 65535 ⌝ }
 {
     let mut place = at;
     let mut i = 0;
@@ -74,27 +76,48 @@ fn read_records(
     place
 }
 
-pub fn answered(tag: &[u8], line: &[u8]) -> bool {
-    let modules = numbers::decimal_within(line, 0, 256);
+// Whether every line that spoils the call is one that it can have.
+fn all_known(with: &[u8]) -> bool {
+    let flags = withlines::known(with, b"len", b"flags", 1);
+    let first = withlines::known(with, b"len", b"first", 1);
+    let modules = withlines::known(with, b"len", b"dep_module", 1);
+    let nexts = withlines::known(with, b"len", b"dep_next", 1);
+    let n = withlines::known(with, b"count", b"n", 1);
+    let d = withlines::known(with, b"count", b"d", 1);
+    let areas = withlines::known(with, b"areas", b"", 2);
+    let tables = looks::sum(looks::sum(flags, first), looks::sum(modules, nexts));
+    looks::sum(tables, looks::sum(looks::sum(n, d), areas)) == withlines::all(with)
+}
+
+// A case, and the lines before it that spoil it.
+pub fn answered(tag: &[u8], line: &[u8], with: &[u8]) -> bool {
+    let modules = numbers::decimal_within(line, 0, 4097);
     let n = modules.value as usize;
-    let records = numbers::decimal_within(line, modules.at, 1024);
+    let records = numbers::decimal_within(line, modules.at, 65535);
     let d = records.value as usize;
     let recursive = numbers::decimal_within(line, records.at, 1);
     let start = numbers::decimal_within(line, recursive.at, 4294967295);
-    let mut flags = [0u8; 256];
-    let mut first = [0u32; 256];
+    let mut flags = [0u8; 4098];
+    let mut first = [0u32; 4098];
+    let mut dependency = [0u32; 65538];
+    let mut next = [0u32; 65538];
     // Record 0 is never read: it holds numbers out of every range.
-    let mut dependency = [4294967295u32; 1025];
-    let mut next = [4294967295u32; 1025];
+    dependency[0] = 4294967295;
+    next[0] = 4294967295;
     let after_flags = read_flags(line, start.at, n, &mut flags);
     let after_first = read_first(line, after_flags, n, &mut first);
     let place = read_records(line, after_first, d, &mut dependency, &mut next);
     if !words::ended(line, place) {
         return false;
     }
+    if !all_known(with) {
+        return false;
+    }
     out::begin(b"capture", tag);
     let from = ModuleIdx(start.value as u32);
     run(
+        tag,
+        with,
         n,
         d,
         recursive.value == 1,
@@ -107,41 +130,65 @@ pub fn answered(tag: &[u8], line: &[u8]) -> bool {
     true
 }
 
-// The call and its answer. Areas hold sevens on entry, so that a mark left unwritten would show.
+// The call and its answer. Areas hold a pattern on entry, and unless a line says otherwise are three entries longer than is needed.
 fn run(
+    tag: &[u8],
+    with: &[u8],
     n: usize,
     d: usize,
     recursive: bool,
     from: ModuleIdx,
-    flags: &[u8; 256],
-    first: &[u32; 256],
-    dependency: &[u32; 1025],
-    next: &[u32; 1025],
-)
-    requires { ⌜ (n ≤ 256) × (d ≤ 1024) ⌝ }
-{
-    let mut marks = [7u8; 256];
-    let mut scratch = [7u32; 256];
+    flags: &[u8; 4098],
+    first: &[u32; 4098],
+    dependency: &[u32; 65538],
+    next: &[u32; 65538],
+) {
+    let mut marks = [areas::BYTE; 4100];
+    let mut scratch = [areas::NUMBER; 4100];
+    let records = std::num::wrapping_add_usize(d, 1);
+    let spare = std::num::wrapping_add_usize(n, 3);
+    let count = withlines::count(with, b"n", n);
+    let lent = withlines::area(with, 1, spare);
     let answer = capture::add_module_and_dependencies_to_group_recursively(
-        n,
-        d,
+        count,
+        withlines::count(with, b"d", d),
         recursive,
         from,
-        parts::bytes(flags, n),
-        parts::shorts(first, n),
-        parts::shorts(dependency, d + 1),
-        parts::shorts(next, d + 1),
-        &mut marks,
-        &mut scratch,
+        parts::bytes(flags, withlines::length(with, b"flags", n)),
+        parts::shorts(first, withlines::length(with, b"first", n)),
+        parts::shorts(dependency, withlines::length(with, b"dep_module", records)),
+        parts::shorts(next, withlines::length(with, b"dep_next", records)),
+        areas::lent_bytes(&mut marks, withlines::area(with, 0, spare)),
+        areas::lent_numbers(&mut scratch, lent),
     );
+    show(tag, answer, count, lent, &marks, &scratch);
+}
+
+// The answer. Marks past the modules are as they were, and all of the lent scratch is zeros.
+fn show(
+    tag: &[u8],
+    answer: CaptureAnswer,
+    n: usize,
+    lent: usize,
+    marks: &[u8; 4100],
+    scratch: &[u32; 4100],
+) {
     match answer {
-        CaptureAnswer::Refused(number) => out::refused(number),
-        CaptureAnswer::Done => show(n, &marks),
+        CaptureAnswer::Refused(number) => {
+            out::refused(number);
+            looks::bytes(tag, b"marks were written", marks, 0);
+            looks::scratch(tag, 0, scratch);
+        }
+        CaptureAnswer::Done => {
+            show_marks(looks::least(n, 4096), marks);
+            looks::bytes(tag, b"marks were written", marks, n);
+            looks::scratch(tag, lent, scratch);
+        }
     }
 }
 
-fn show(n: usize, marks: &[u8; 256])
-    requires { ⌜ n ≤ 256 ⌝ }
+fn show_marks(n: usize, marks: &[u8; 4100])
+    requires { ⌜ n ≤ 4096 ⌝ }
 {
     out::blank();
     let mut i = 0;

@@ -1,5 +1,7 @@
 // merge TAG K E THRESHOLD, then K times: SIZE W0 W1 W2 W3
+use crate::looks;
 use limit::Limit;
+use listform::areas;
 use merge::MergeAnswer;
 use textform::doubles;
 use textform::numbers;
@@ -13,10 +15,10 @@ fn read_subgroup(
     line: &[u8],
     at: usize,
     i: usize,
-    sizes: &mut [u64; 256],
-    bits: &mut [u64; 1024],
+    sizes: &mut [u64; 4098],
+    bits: &mut [u64; 16392],
 ) -> usize
-    requires { ⌜ i < 256 ⌝ }
+    requires { ⌜ i < 4097 ⌝ }
 {
     let size = numbers::decimal(line, at);
     let a = numbers::hexadecimal(line, size.at);
@@ -36,10 +38,10 @@ fn read_subgroups(
     line: &[u8],
     at: usize,
     k: usize,
-    sizes: &mut [u64; 256],
-    bits: &mut [u64; 1024],
+    sizes: &mut [u64; 4098],
+    bits: &mut [u64; 16392],
 ) -> usize
-    requires { ⌜ k ≤ 256 ⌝ }
+    requires { ⌜ k ≤ 4097 ⌝ }
 {
     let mut place = at;
     let mut i = 0;
@@ -58,20 +60,36 @@ fn threshold_of(limit: Limit) -> f64 {
     }
 }
 
-pub fn answered(tag: &[u8], line: &[u8]) -> bool {
-    let count = numbers::decimal_within(line, 0, 256);
+// Whether every line that spoils the call is one that it can have.
+fn all_known(with: &[u8]) -> bool {
+    let sizes = withlines::known(with, b"len", b"sizes", 1);
+    let bits = withlines::known(with, b"len", b"bits", 1);
+    let k = withlines::known(with, b"count", b"k", 1);
+    let e = withlines::known(with, b"count", b"e", 1);
+    let areas = withlines::known(with, b"areas", b"", 3);
+    looks::sum(looks::sum(looks::sum(looks::sum(sizes, bits), k), e), areas) == withlines::all(with)
+}
+
+// A case, and the lines before it that spoil it.
+pub fn answered(tag: &[u8], line: &[u8], with: &[u8]) -> bool {
+    let count = numbers::decimal_within(line, 0, 4097);
     let k = count.value as usize;
     let entries = numbers::decimal(line, count.at);
     let threshold = doubles::limit(line, entries.at);
     let limit = threshold.value;
-    let mut sizes = [0u64; 256];
-    let mut bits = [0u64; 1024];
+    let mut sizes = [0u64; 4098];
+    let mut bits = [0u64; 16392];
     let place = read_subgroups(line, threshold.at, k, &mut sizes, &mut bits);
     if !words::ended(line, place) {
         return false;
     }
+    if !all_known(with) {
+        return false;
+    }
     out::begin(b"merge", tag);
     run(
+        tag,
+        with,
         k,
         entries.value as usize,
         &sizes,
@@ -81,31 +99,78 @@ pub fn answered(tag: &[u8], line: &[u8]) -> bool {
     true
 }
 
-// The call and its answer. Areas hold sevens on entry, so that an entry left unwritten would show.
-fn run(k: usize, entries: usize, sizes: &[u64; 256], bits: &[u64; 1024], threshold: f64)
-    requires { ⌜ k ≤ 256 ⌝ }
+// The length of an area in subgroups: three more than are needed, unless a line says otherwise.
+fn lent(with: &[u8], place: usize, k: usize) -> usize
+    requires { ⌜ (place ≤ 2) × (k ≤ 4097) ⌝ }
+    ensures { λ r. ⌜ r ≤ 4100 ⌝ }
 {
-    let mut final_numbers = [7u32; 256];
-    let mut final_sizes = [7u64; 256];
-    let mut final_bits = [7u64; 1024];
+    looks::least(withlines::area(with, place, k + 3), 4100)
+}
+
+// The call and its answer. Areas hold a pattern on entry.
+fn run(
+    tag: &[u8],
+    with: &[u8],
+    k: usize,
+    entries: usize,
+    sizes: &[u64; 4098],
+    bits: &[u64; 16392],
+    threshold: f64,
+)
+    requires { ⌜ k ≤ 4097 ⌝ }
+{
+    let mut final_numbers = [areas::NUMBER; 4100];
+    let mut final_sizes = [areas::WORD; 4100];
+    let mut final_bits = [areas::WORD; 16400];
+    let count = withlines::count(with, b"k", k);
     let answer = merge::merge_entries_aware_subgroups(
-        k,
-        entries,
-        parts::longs(sizes, k),
-        parts::longs(bits, 4 * k),
+        count,
+        withlines::count(with, b"e", entries),
+        parts::longs(sizes, withlines::length(with, b"sizes", k)),
+        parts::longs(bits, withlines::length(with, b"bits", 4 * k)),
         threshold,
-        &mut final_numbers,
-        &mut final_sizes,
-        &mut final_bits,
+        areas::lent_numbers(&mut final_numbers, lent(with, 0, k)),
+        areas::lent_words(&mut final_sizes, lent(with, 1, k)),
+        areas::lent_words(&mut final_bits, 4 * lent(with, 2, k)),
     );
+    let written = show(answer, count, &final_numbers, &final_sizes, &final_bits);
+    look(tag, written, &final_numbers, &final_sizes, &final_bits);
+}
+
+// Every entry past those that were written is as it was.
+fn look(tag: &[u8], written: usize, numbers: &[u32; 4100], sizes: &[u64; 4100], bits: &[u64; 16400])
+    requires { ⌜ written ≤ 4096 ⌝ }
+{
+    looks::numbers(tag, b"numbers were written", numbers, written);
+    looks::words(tag, b"sizes were written", sizes, written);
+    looks::words(tag, b"bits were written", bits, 4 * written);
+}
+
+// Answers how many subgroups were written.
+fn show(
+    answer: MergeAnswer,
+    k: usize,
+    numbers: &[u32; 4100],
+    sizes: &[u64; 4100],
+    bits: &[u64; 16400],
+) -> usize
+    ensures { λ r. ⌜ r ≤ 4096 ⌝ }
+{
     match answer {
-        MergeAnswer::Refused(number) => out::refused(number),
-        MergeAnswer::Done => show(k, &final_numbers, &final_sizes, &final_bits),
+        MergeAnswer::Refused(number) => {
+            out::refused(number);
+            0
+        }
+        MergeAnswer::Done => {
+            let written = looks::least(k, 4096);
+            show_all(written, numbers, sizes, bits);
+            written
+        }
     }
 }
 
-fn show_subgroup(i: usize, numbers: &[u32; 256], sizes: &[u64; 256], bits: &[u64; 1024])
-    requires { ⌜ i < 256 ⌝ }
+fn show_subgroup(i: usize, numbers: &[u32; 4100], sizes: &[u64; 4100], bits: &[u64; 16400])
+    requires { ⌜ i < 4096 ⌝ }
 {
     out::blank();
     out::short(numbers[i]);
@@ -118,8 +183,8 @@ fn show_subgroup(i: usize, numbers: &[u32; 256], sizes: &[u64; 256], bits: &[u64
     out::word(bits[from + 3]);
 }
 
-fn show(k: usize, numbers: &[u32; 256], sizes: &[u64; 256], bits: &[u64; 1024])
-    requires { ⌜ k ≤ 256 ⌝ }
+fn show_all(k: usize, numbers: &[u32; 4100], sizes: &[u64; 4100], bits: &[u64; 16400])
+    requires { ⌜ k ≤ 4096 ⌝ }
 {
     let mut i = 0;
     while i < k {

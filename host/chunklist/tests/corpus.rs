@@ -45,6 +45,12 @@ fn damaged_calls_are_refused_by_document_01() {
 }
 
 #[test]
+fn leaf_calls_at_the_limits_are_answered_by_document_01() {
+    let same = replay("leaf-limits");
+    assert!(same >= 141, "{same} replayed");
+}
+
+#[test]
 fn builds_at_the_limits_are_answered_by_document_01() {
     let same = replay("limits");
     assert!(same >= 211, "{same} replayed");

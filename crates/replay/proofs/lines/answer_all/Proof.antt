@@ -8,10 +8,10 @@ use Rattle.replay.proofs.lines.answer_all.Statement.{statement}
 use Rattle.replay.proofs.lines.answer_all.Tie as tie
 
 abbrev Inv-loop : tie.InvT-loop
-Inv-loop input at₀ number₀ at number = number ≤ at
+Inv-loop input at₀ with₀ number₀ at with number = number ≤ at
 
 abbrev μ-loop : tie.MeasureT-loop
-μ-loop input at₀ number₀ at number = length input - at
+μ-loop input at₀ with₀ number₀ at with number = length input - at
 
 loop-holds : tie.Need-loop-holds Inv-loop μ-loop
 loop-holds c = search needs
@@ -19,17 +19,20 @@ loop-holds c = search needs
 find-requires : tie.Need-find-requires Inv-loop μ-loop
 find-requires c κs = search needs
 
+add-next : tie.Need-add-next Inv-loop μ-loop
+add-next c = omega (arith, c .find .ensures .1 (omega arith))
+
 add-number : tie.Need-add-number Inv-loop μ-loop
 add-number c = search needs
 
 part-requires : tie.Need-part-requires Inv-loop μ-loop
 part-requires c κs = search needs
 
+part-requires-2 : tie.Need-part-requires-2 Inv-loop μ-loop
+part-requires-2 c κs = search needs
+
 answer-line-requires : tie.Need-answer-line-requires Inv-loop μ-loop
 answer-line-requires c κs = search needs
-
-add-at : tie.Need-add-at Inv-loop μ-loop
-add-at c = omega (arith, c .before .before .find .ensures .1 (omega arith))
 
 loop-less : tie.Need-loop-less Inv-loop μ-loop
 loop-less c = search needs
@@ -48,10 +51,11 @@ answer-all-spec =
     μ-loop
     loop-holds
     find-requires
+    add-next
     add-number
     part-requires
+    part-requires-2
     answer-line-requires
-    add-at
     loop-less
     loop-again
     returns)
