@@ -14,14 +14,7 @@ ghost use Rattle.merge.specs.Seekers.{Exact};
 pub struct Candidate {
     pub number: usize,
     pub size: f64,
-    pub distance: usize,
-}
-
-// A count as a word of the machine.
-fn wide(count: u32) -> usize
-    ensures { λ r. ⌜ r ≡ count ⌝ }
-{
-    count as usize
+    pub distance: u32,
 }
 
 impl Candidate {
@@ -45,7 +38,7 @@ impl Candidate {
         Candidate {
             number: i,
             size: size_at(sizes, i),
-            distance: wide(wanted.symmetric_difference_count(row(bits, i))),
+            distance: wanted.symmetric_difference_count(row(bits, i)),
         }
     }
 
@@ -84,7 +77,7 @@ impl Candidate {
     {
         let a = wanted.words;
         let b = other.words;
-        self.distance < wide(u64::count_ones(a[0] ^ b[0]))
+        self.distance < u64::count_ones(a[0] ^ b[0])
     }
 
     // The nearest so far, once number i was looked at.

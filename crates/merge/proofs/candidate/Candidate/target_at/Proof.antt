@@ -18,18 +18,14 @@ row-requires c κs = search needs
 symmetric-difference-count-requires : tie.Need-symmetric-difference-count-requires
 symmetric-difference-count-requires c κs = search needs
 
-wide-requires : tie.Need-wide-requires
-wide-requires c κs = search needs
-
 returns : tie.Need-returns
 unfolding targetAt
 returns c =
-    let d = c .before in
-    let r = d .before in
+    let r = c .before in
     let z = r .before in
     let a = z .before .before .before .args in
     ap₂ {C = Candidate} (λ (z : Float) (n : ℕ). record { number = a .i; size = z; distance = n }) (z .size-at .ensures)
-    (c .wide .ensures ∙ d .symmetric-difference-count .ensures ∙ ap (differing (a .wanted)) (r .row .ensures))
+    (c .symmetric-difference-count .ensures ∙ ap (differing (a .wanted)) (r .row .ensures))
 
 pub target-at-spec : {M : Type 1} → statement M
-target-at-spec = tie.close (tie.spec size-at-requires row-requires symmetric-difference-count-requires wide-requires returns)
+target-at-spec = tie.close (tie.spec size-at-requires row-requires symmetric-difference-count-requires returns)
