@@ -1,11 +1,11 @@
 -- The laws of the definitions of specs/.
 pub mod Doubles
-pub mod Looking
 pub mod Rows
 pub mod Front
 pub mod Least
 pub mod There
 pub mod Kept
+pub mod Looking
 pub mod Totals
 pub mod Uniting
 pub mod Moving

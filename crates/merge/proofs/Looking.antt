@@ -1,19 +1,21 @@
 -- One more is looked at: it takes the place of the best so far, or the best stays.
-use Prim.Native.Nat.{ℕ, _≤_, _<_}
+use Prim.Native.Nat.{ℕ, _+_, _≤_, _<_}
 use mathlib.Core.Bool.{Bool, true, false, cond, true≢false}
+use mathlib.Core.List.{List}
 use mathlib.Core.Option.{some, none}
-use mathlib.Core.Path.{_≡_, refl, sym, ap, _∙_}
-use borrow.Author.Tests.{lt-ltb, le-ltb, ltb-true}
+use mathlib.Core.Path.{_≡_, refl, sym, ap, _∙_, subst}
+use borrow.Author.Tests.{lt-ltb, le-ltb}
 use native.Mathlib.Omega.{arith}
-use lib.Dec.{ltb}
+use lib.ListN.{length, getD}
 use Rattle.lists.specs.Least.{earlier}
-use Rattle.bitset.specs.Entries.{differing}
+use Rattle.bitset.specs.Entries.{rowOf, differing}
 use Rattle.bitset.specs.declared.entries.BitSet.{BitSet}
 use Rattle.bitset.proofs.Words.{Words}
 use Rattle.bitset.proofs.Differing.{differing-ones}
-use Rattle.merge.specs.Search.{comesFirst, firstOnes, foundOf, givesWay, looked}
+use Rattle.merge.specs.Search.{comesFirst, firstOnes, foundOf, givesWay, looked, PassedOver}
 use Rattle.merge.specs.declared.candidate.Candidate.{Candidate}
 use Rattle.merge.specs.declared.search.Best.{Best}
+use Rattle.merge.proofs.Kept.{by-number}
 
 abbrev newBest : Candidate → Best
 newBest x = record { found = true; candidate = x }
@@ -56,13 +58,21 @@ module _ (c x : Candidate) where
   pub is-earlier : comesFirst x c ≡ true → x ≡ earlier comesFirst c x
   is-earlier e = sym (ap (λ b. cond b x c) e)
 
-  -- n entries are at most those of x, and more than those of c
-  pub farther : (n : ℕ) → n ≤ x .distance → ltb (c .distance) n ≡ true → comesFirst x c ≡ false
+  pub farther : c .distance < x .distance → comesFirst x c ≡ false
   unfolding comesFirst
-  farther n h e =
-      let l : c .distance < n = ltb-true (c .distance) n e in
-      rw (le-ltb (x .distance) (c .distance) (omega arith), lt-ltb (c .distance) (x .distance) (omega arith))
+  farther l = rw (le-ltb (x .distance) (c .distance) (omega arith), lt-ltb (c .distance) (x .distance) l)
 
 -- the first words alone tell two sets apart by no more entries than all four
 pub first-at-most : {a b : BitSet} → Words a → Words b → firstOnes a b ≤ differing a b
 first-at-most p q = omega (arith, differing-ones p q)
+
+-- the number at place i is farther too
+pub one-passed : (there bits : List ℕ) (wanted : BitSet) (best : Candidate) (from i : ℕ) → PassedOver there bits wanted best from i → i < length there
+    → best .distance < differing wanted (rowOf bits (getD there i 0)) → PassedOver there bits wanted best from (i + 1)
+one-passed there bits wanted best from i passed h far = record {
+  not-before = omega (arith, passed .not-before);
+  not-past = omega arith;
+  farther = λ k p q. by-number k i
+      (λ e. subst (λ j. best .distance < differing wanted (rowOf bits (getD there j 0))) (sym e) far)
+      (λ n. passed .farther k p (omega arith));
+}

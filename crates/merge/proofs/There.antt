@@ -1,9 +1,10 @@
 -- The numbers that are still there, looked through one after the other, and rows of tables that fit.
-use Prim.Native.Nat.{ℕ, _+_, _≤_, _<_, _^_}
-use mathlib.Core.Bool.{Bool, true, not}
+use Prim.Native.Nat.{ℕ, zero, suc, _+_, _-_, _≤_, _<_, _^_}
+use mathlib.Core.Bool.{Bool, true, false, not, cond}
 use mathlib.Core.List.{List, [], _∷_, _++_, map, map-append}
 use mathlib.Core.Option.{Option, none, some}
 use mathlib.Core.Path.{_≡_, refl, sym, ap, _∙_}
+use native.Mathlib.Nat.{add-zero}
 use native.Mathlib.Numerals.{add-one}
 use native.Mathlib.Omega.{arith}
 use lib.Dec.{eqb}
@@ -48,6 +49,26 @@ module _ {A : Type 0} (f : ℕ → A) (before : A → A → Bool) (l : List ℕ)
       n
       ∙ ap (λ best. looked before true best (f (getD l i 0))) so-far
       ∙ sym (ap (least before) (images-more i h) ∙ least-snoc before (map f (take i l)) (f (getD l i 0)))
+
+  -- numbers that do not come before the best are passed over
+  passed-over-so-many : (best : A) (i n : ℕ) → some best ≡ least before (map f (take i l)) → i + n ≤ length l
+      → ((k : ℕ) → i ≤ k → k < i + n → before (f (getD l k 0)) best ≡ false) → some best ≡ least before (map f (take (i + n) l))
+  unfolding looked
+  passed-over-so-many best i zero so-far h later = rw (add-zero i) so-far
+  passed-over-so-many best i (suc n) so-far h later =
+      let next : i + n + 1 ≡ i + suc n = omega arith in
+      search-more (i + n) (omega arith) (some best) (some best) (passed-over-so-many best i n so-far (omega arith) (λ k p q. later k p (omega arith)))
+      (stays (f (getD l (i + n) 0)) (later (i + n) (omega arith) (omega arith)))
+      ∙ ap (λ m. least before (map f (take m l))) next
+    where
+      stays : (x : A) → before x best ≡ false → some best ≡ looked before true (some best) x
+      stays x e = ap some (sym (ap (λ b. cond b x best) e))
+
+  pub search-passed : (best : A) (i r : ℕ) → some best ≡ least before (map f (take i l)) → i ≤ r → r ≤ length l
+      → ((k : ℕ) → i ≤ k → k < r → before (f (getD l k 0)) best ≡ false) → some best ≡ least before (map f (take r l))
+  search-passed best i r so-far p q later =
+      let sum : i + (r - i) ≡ r = omega arith in
+      passed-over-so-many best i (r - i) so-far (omega arith) (λ k g h. later k g (omega arith)) ∙ ap (λ m. least before (map f (take m l))) sum
 
   -- of those that are looked for
   module _ (q : A → Bool) where

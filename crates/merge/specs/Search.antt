@@ -69,6 +69,12 @@ looked before false best x = best
 looked before true none x = some x
 looked before true (some best) x = some (earlier before best x)
 
+-- the numbers at the places from `from` up to r are farther from the seeker than the best
+pub record PassedOver (there bits : List ℕ) (wanted : BitSet) (best : Candidate) (from r : ℕ) : Type 0 where
+  pub not-before : from ≤ r
+  pub not-past : r ≤ length there
+  pub farther : (k : ℕ) → from ≤ k → k < r → best .distance < differing wanted (rowOf bits (getD there k 0))
+
 -- ---- what a search reads
 
 -- row i has a size of at most 2^53 and four words

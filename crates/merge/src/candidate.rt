@@ -85,9 +85,6 @@ impl Candidate {
         requires { ⌜ Row (now sizes) (now bits) i ⌝ }
         ensures { λ r. ⌜ r ≡ earlier comesFirst self (targetAt (now (sizes .entry)) (now (bits .entry)) wanted i) ⌝ }
     {
-        if self.rules_out(row(bits, i), wanted) {
-            return self;
-        }
         let x = Candidate::target_at(sizes, bits, i, wanted);
         if x.comes_before(self) {
             return x;

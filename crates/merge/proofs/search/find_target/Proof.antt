@@ -1,5 +1,5 @@
 -- The invariant: the best so far is the nearest of the first i numbers of the list. The measure is the numbers left.
-use Prim.Native.Nat.{_-_, _≤_}
+use Prim.Native.Nat.{_+_, _-_, _≤_}
 use mathlib.Core.List.{map}
 use mathlib.Core.Option.{some}
 use mathlib.Core.Path.{_≡_, ap, _∙_}
@@ -8,7 +8,8 @@ use lib.ListN.{length, getD, take}
 use lib.Seq.{take-all}
 use Rattle.lists.specs.Least.{least}
 use Rattle.merge.specs.Search.{comesFirst, targetAt, foundOf, looked}
-use Rattle.merge.proofs.There.{search-empty, search-one, search-more}
+use Rattle.merge.proofs.Looking.{farther}
+use Rattle.merge.proofs.There.{search-empty, search-one, search-more, search-passed}
 use Rattle.merge.proofs.search.find_target.Statement.{statement}
 use Rattle.merge.proofs.search.find_target.Tie as tie
 
@@ -39,10 +40,23 @@ target-at-requires c κs =
     let h = s .pre .0 .inside 0 (omega arith) in
     record { has-size = h; has-bits = omega (arith, s .pre .1); exact = s .pre .0 .exact (getD (s .args .there .now) 0 0) h }
 
+pass-over-requires : tie.Need-pass-over-requires Inv-loop μ-loop
+pass-over-requires c κs =
+    let s = c .before .before .before .before .before .before in
+    (omega arith, λ i h. omega (arith, s .pre .0 .inside i h, s .pre .1))
+
 loop-holds : tie.Need-loop-holds Inv-loop μ-loop
+unfolding targetAt
 loop-holds c =
-    let a = c .before .before .before .before .before .before .args in
-    (omega arith, ap some (c .target-at .ensures) ∙ search-one (targetAt (a .sizes .now) (a .bits .now) (a .wanted)) comesFirst (a .there .now) (omega arith))
+    let a = c .before .before .before .before .before .before .before .args in
+    let f = targetAt (a .sizes .now) (a .bits .now) (a .wanted) in
+    let t = c .before .target-at in
+    let p = c .pass-over .ensures in
+    let first = ap some (t .ensures) ∙ search-one f comesFirst (a .there .now) (omega arith) in (
+      p .not-past,
+      search-passed f comesFirst (a .there .now) (t .result) 1 (c .pass-over .result) first (p .not-before) (p .not-past)
+          (λ k l h. farther (t .result) (f (getD (a .there .now) k 0)) (p .farther k l h)),
+    )
 
 mul-or-target : tie.Need-mul-or-target Inv-loop μ-loop
 mul-or-target c = omega arith
@@ -55,32 +69,41 @@ cast-or-target c = omega (arith, c .shared-slice-known5 .given (c .before .befor
 
 or-target-requires : tie.Need-or-target-requires Inv-loop μ-loop
 or-target-requires c κs =
-    let s = c .before .before .before .before .before .before .before .before .before in
+    let s = c .before .before .before .before .before .before .before .before .before .before in
     let i = c .before .before .loop .i in
     let h = s .pre .0 .inside i (omega arith) in
     record { has-size = h; has-bits = omega (arith, s .pre .1); exact = s .pre .0 .exact (getD (s .args .there .now) i 0) h }
 
-add-i : tie.Need-add-i Inv-loop μ-loop
-add-i c = omega arith
+add-pass-over : tie.Need-add-pass-over Inv-loop μ-loop
+add-pass-over c = omega arith
+
+pass-over-requires-2 : tie.Need-pass-over-requires-2 Inv-loop μ-loop
+pass-over-requires-2 c κs =
+    let s = c .before .before .before .before .before .before .before .before .before .before .before in
+    (omega arith, λ i h. omega (arith, s .pre .0 .inside i h, s .pre .1))
 
 loop-less : tie.Need-loop-less Inv-loop μ-loop
-loop-less c = omega arith
+loop-less c = omega (arith, c .pass-over2 .ensures .not-before)
 
 loop-again : tie.Need-loop-again Inv-loop μ-loop
-unfolding looked
+unfolding looked targetAt
 loop-again c =
-    let l = c .before .before .before .loop in
-    let a = c .before .before .before .before .before .before .before .before .before .before .args in (
-      omega arith,
-      search-more (targetAt (a .sizes .now) (a .bits .now) (a .wanted)) comesFirst (a .there .now) (l .i) (omega arith)
-          (some (l .best)) (some (c .or-target .result)) (l .inv .1) (ap some (c .or-target .ensures)),
+    let l = c .before .before .before .before .loop in
+    let a = c .before .before .before .before .before .before .before .before .before .before .before .before .args in
+    let f = targetAt (a .sizes .now) (a .bits .now) (a .wanted) in
+    let t = c .before .or-target in
+    let p = c .pass-over2 .ensures in
+    let more = search-more f comesFirst (a .there .now) (l .i) (omega arith) (some (l .best)) (some (t .result)) (l .inv .1) (ap some (t .ensures)) in (
+      p .not-past,
+      search-passed f comesFirst (a .there .now) (t .result) (l .i + 1) (c .pass-over2 .result) more (p .not-before) (p .not-past)
+          (λ k g h. farther (t .result) (f (getD (a .there .now) k 0)) (p .farther k g h)),
     )
 
 returns-2 : tie.Need-returns-2 Inv-loop μ-loop
 unfolding foundOf
 returns-2 c =
     let l = c .before .loop in
-    let a = c .before .before .before .before .before .before .before .before .args in
+    let a = c .before .before .before .before .before .before .before .before .before .args in
     l .inv .1 ∙ ap (λ t. least comesFirst (map (targetAt (a .sizes .now) (a .bits .now) (a .wanted)) t)) (take-all (l .i) (a .there .now) (omega arith))
 
 pub find-target-spec : {M : Type 1} → statement M
@@ -94,12 +117,14 @@ find-target-spec =
     shared-slice-read-target-at
     cast-target-at
     target-at-requires
+    pass-over-requires
     loop-holds
     mul-or-target
     shared-slice-read-or-target
     cast-or-target
     or-target-requires
-    add-i
+    add-pass-over
+    pass-over-requires-2
     loop-less
     loop-again
     returns-2)
