@@ -1,7 +1,7 @@
 -- Closed sets: once a set that was found along dependencies is in chunks whole, so is all that its modules reach. Later walks pass over it, and what
 -- they find without it is all that is left, since an item is read without the modules that have a chunk.
 use Prim.Native.Nat.{ℕ, _-_}
-use mathlib.Core.Bool.{Bool, true, not, cond, _&&_}
+use mathlib.Core.Bool.{Bool, not, cond, _&&_}
 use mathlib.Core.List.{List}
 use mathlib.Core.Path.{_≡_}
 use lib.Dec.{eqb}

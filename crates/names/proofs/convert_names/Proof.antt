@@ -13,7 +13,7 @@ use Rattle.capture.specs.Followed.{unfollowed}
 use Rattle.capture.proofs.Trail.{unfollowed-bytes}
 use Rattle.options.specs.declared.Settings.{Settings}
 use Rattle.running.specs.Fits.{Walking}
-use Rattle.names.specs.Closed.{closes, closedAfter}
+use Rattle.names.specs.Closed.{closedAfter}
 use Rattle.names.proofs.ClosedSets.{Passing, passing-none}
 use Rattle.names.proofs.SetOfRun.{places-free, set-ready}
 use Rattle.names.proofs.NameSteps.{NamesDone, names-start, number-now, place-now, count-in, number-next, names-next, names-turned}

@@ -1,6 +1,4 @@
 -- `names::closed::can_close` meets its contract, by whether the group is entries-aware.
-use mathlib.Core.Bool.{Bool, not, _&&_}
-use mathlib.Core.Path.{_≡_, sym, ap}
 use borrow.Author.Needs.{needs}
 use Rattle.names.specs.Closed.{closes}
 use Rattle.names.proofs.closed.can_close.Statement.{statement}

@@ -1,10 +1,7 @@
 -- `names::closed::close_set` meets its contract: each way through it is one of the two ways of the definition.
-use mathlib.Core.Bool.{Bool, not, cond, _&&_}
-use mathlib.Core.List.{List}
-use mathlib.Core.Path.{_≡_, sym, ap, ap₂, _∙_}
+use mathlib.Core.Path.{sym, _∙_}
 use borrow.Author.Tests.{not-true, not-false}
-use Rattle.records.specs.Marks.{stored}
-use Rattle.names.specs.Closed.{someLeft, closedAfter}
+use Rattle.names.specs.Closed.{closedAfter}
 use borrow.Author.Needs.{needs}
 use Rattle.names.proofs.closed.close_set.Statement.{statement}
 use Rattle.names.proofs.closed.close_set.Tie as tie

@@ -7,7 +7,7 @@ use mir.Facts.{fits-32-64}
 use lib.ListN.{length, getD, take}
 use Rattle.sets.specs.Gathered.{markedIn}
 use Rattle.sets.proofs.Marking.{marked-none, marked-in, marked-out, marked-all, marked-block}
-use Rattle.sets.proofs.Writing.{Writing, none-written, one-written, none-more, none-until, has-room, one-of}
+use Rattle.sets.proofs.Writing.{Writing, none-written, one-written, none-more, none-until, one-of}
 use Rattle.sets.proofs.gathered.gather_marked.Statement.{statement}
 use Rattle.sets.proofs.gathered.gather_marked.Tie as tie
 

@@ -1,9 +1,7 @@
 -- `sets::gathered::gather_set` meets its contract: with nothing on the list nothing is marked, and else the blocks of the list are marked.
-use native.Mathlib.Omega.{arith}
 use Rattle.sets.proofs.Marking.{block-marked, none-marked}
-use Rattle.sets.specs.Area.{Holds}
-use mathlib.Core.Path.{_≡_, refl, sym, ap}
-use lib.ListN.{length, replicate}
+use mathlib.Core.Path.{sym, ap}
+use lib.ListN.{length}
 use borrow.Author.Needs.{needs}
 use Rattle.sets.proofs.gathered.gather_set.Statement.{statement}
 use Rattle.sets.proofs.gathered.gather_set.Tie as tie

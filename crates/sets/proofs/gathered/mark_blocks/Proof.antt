@@ -1,10 +1,10 @@
 -- `sets::gathered::mark_blocks` meets its contract: the block of one module more a turn.
-use Prim.Native.Nat.{_≤_, _<_, _-_}
+use Prim.Native.Nat.{_≤_, _-_}
 use mathlib.Core.List.{map}
-use mathlib.Core.Path.{_≡_, refl, sym, ap, _∙_}
+use mathlib.Core.Path.{_≡_, refl}
 use native.Mathlib.Omega.{arith}
 use mir.Facts.{fits-32-64}
-use lib.ListN.{length, getD, take, set, length-map, length-set}
+use lib.ListN.{length, getD, take, length-map, length-set}
 use Rattle.lists.proofs.Map.{getD-map-below}
 use Rattle.records.specs.Marks.{stored}
 use Rattle.capture.proofs.Storing.{stored-none, stored-more, stored-all}
