@@ -1,6 +1,4 @@
 // Runs the case of document 01 and prints it whole: modules 0 "app", 1 "lib/a", 2 "lib/b" and 3 "theme", two groups, two names.
-mod table;
-
 use chunks::ChunksAnswer;
 use filter::MinShareCount;
 use limit::Limit;
@@ -18,9 +16,9 @@ fn answered(
     size_of: &[f64],
 ) {
     match answer {
-        ChunksAnswer::Refused(number) => table::refused(number),
+        ChunksAnswer::Refused(number) => chunktable::refused(number),
         ChunksAnswer::Made(count) => {
-            table::chunks(
+            chunktable::chunks(
                 count,
                 chunk_of,
                 next_of,
@@ -57,6 +55,7 @@ fn run_case(
     bits_of: &mut [u64],
     scratch: &mut [u32],
 ) -> ChunksAnswer {
+    let none = [0.0, 0.0];
     plainsplit::split(
         4,
         2,
@@ -76,14 +75,14 @@ fn run_case(
         &[0, 0, 0],
         no_options(),
         &[0, 32],
-        &[0.0, 0.0],
-        &[0.0, 0.0],
-        &[0.0, 0.0],
-        &[0.0, 0.0],
+        &none,
+        &none,
+        &none,
+        &none,
         &[0, 0],
         &[0, 0],
         &[0, 5],
-        &[0.0, 0.0],
+        &none,
         &[0, 2, 0, 0, 3, 0, 0, 0],
         0,
         chunk_of,

@@ -1,8 +1,8 @@
--- `table::chunks` is safe and ends: one record after the other, up to the count.
+-- `chunktable::chunks` is safe and ends: one record after the other, up to the count.
 use Prim.Native.Nat.{_≤_, _-_}
 use borrow.Author.Needs.{needs}
-use Rattle.chunkcases.proofs.table.chunks.Statement.{statement}
-use Rattle.chunkcases.proofs.table.chunks.Tie as tie
+use Rattle.chunktable.proofs.chunks.Statement.{statement}
+use Rattle.chunktable.proofs.chunks.Tie as tie
 
 abbrev Inv-loop : tie.InvT-loop
 Inv-loop count chunk-of next-of first-of group-of name-of size-of at₀ at = at ≤ count

@@ -1,9 +1,9 @@
--- `table::modules` is safe and ends: it takes at most as many steps as there are modules.
+-- `chunktable::modules` is safe and ends: it takes at most as many steps as there are modules.
 use Prim.Native.Nat.{_≤_, _-_}
 use borrow.Author.Needs.{needs}
 use lib.ListN.{length}
-use Rattle.chunkcases.proofs.table.modules.Statement.{statement}
-use Rattle.chunkcases.proofs.table.modules.Tie as tie
+use Rattle.chunktable.proofs.modules.Statement.{statement}
+use Rattle.chunktable.proofs.modules.Tie as tie
 
 abbrev Inv-loop : tie.InvT-loop
 Inv-loop first next-of rest₀ i₀ rest i = i ≤ length next-of
