@@ -14,6 +14,7 @@
 pub mod case;
 pub mod damage;
 mod lines;
+mod quote;
 mod read_build;
 mod read_leaf;
 mod read_reply;
@@ -28,6 +29,7 @@ use std::fmt;
 pub use case::{Build, Call, Capture, Case, Chunks, Cut, Filter, Group, Merge, Module, Options};
 pub use case::{Question, Record, Sim, Subgroup};
 pub use damage::{Count, Damage, Table};
+pub use quote::Quoted;
 pub use reply::{Answer, Chunk, ChunkList, CutAnswer, MergedSubgroup, Reply};
 
 /// Why a text can't be read, and in which line.
@@ -49,12 +51,12 @@ impl std::error::Error for TextError {}
 
 /// Reads all cases of a text.
 pub fn read_cases(text: &str) -> Result<Vec<Case>, TextError> {
-    Cases::new(text).collect()
+    Cases::new(text.as_bytes()).collect()
 }
 
 /// Reads all replies of a text.
 pub fn read_replies(text: &str) -> Result<Vec<Reply>, TextError> {
-    let mut lines = lines::Lines::new(text);
+    let mut lines = lines::Lines::new(text.as_bytes());
     let mut replies = Vec::new();
     while let Some(reply) = read_reply::next_reply(&mut lines)? {
         replies.push(reply);
@@ -69,9 +71,14 @@ pub struct Cases<'a> {
 }
 
 impl<'a> Cases<'a> {
-    /// The cases of this text.
-    pub fn new(text: &'a str) -> Self {
+    /// The cases of this text. It should be UTF-8; the first line that isn't is an error.
+    pub fn new(text: &'a [u8]) -> Self {
         Self { lines: lines::Lines::new(text), failed: false }
+    }
+
+    /// The line of the call in the case handed out last; of a build the first one.
+    pub fn line(&self) -> usize {
+        self.lines.case()
     }
 }
 

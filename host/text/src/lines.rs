@@ -1,34 +1,43 @@
 //! The lines of a text, one after another, each with its number.
 
+use std::slice::SplitInclusive;
+
 use crate::{TextError, words::Words};
 
-/// Walks the lines of a text.
+/// Whether a byte ends a line.
+type IsEnd = fn(&u8) -> bool;
+
+/// Walks the lines of a text. A line is looked at when its turn comes, so that what stands before
+/// one that isn't UTF-8 can be read.
 pub struct Lines<'a> {
-    rest: std::iter::Enumerate<std::str::Lines<'a>>,
+    rest: SplitInclusive<'a, u8, IsEnd>,
     /// The number of the line handed out last.
     last: usize,
+    /// The number of the line in which the case read last began.
+    case: usize,
 }
 
 impl<'a> Lines<'a> {
     /// The lines of this text.
-    pub fn new(text: &'a str) -> Self {
-        Self { rest: text.lines().enumerate(), last: 0 }
+    pub fn new(text: &'a [u8]) -> Self {
+        let is_end: IsEnd = |byte| *byte == b'\n';
+        Self { rest: text.split_inclusive(is_end), last: 0, case: 1 }
     }
 
     /// The next line within a case: an error at the end of the text.
     pub fn inside(&mut self, wanted: &str) -> Result<Words<'a>, TextError> {
-        match self.step() {
+        match self.step()? {
             Some(words) => Ok(words),
             None => Err(self.error(format!("the text ends where {wanted} is expected"))),
         }
     }
 
     /// The next line between cases: empty lines and comments are passed over.
-    pub fn between(&mut self) -> Option<Words<'a>> {
+    pub fn between(&mut self) -> Result<Option<Words<'a>>, TextError> {
         loop {
-            let words = self.step()?;
-            if !words.is_passed_over() {
-                return Some(words);
+            match self.step()? {
+                Some(words) if words.is_passed_over() => {}
+                other => return Ok(other),
             }
         }
     }
@@ -38,9 +47,24 @@ impl<'a> Lines<'a> {
         TextError { line: self.last.max(1), message }
     }
 
-    fn step(&mut self) -> Option<Words<'a>> {
-        let (number, line) = self.rest.next()?;
-        self.last = number + 1;
-        Some(Words::new(self.last, line))
+    /// Notes that a case begins in the line handed out last.
+    pub fn begin_case(&mut self) {
+        self.case = self.last;
+    }
+
+    /// The line in which the case read last began.
+    pub fn case(&self) -> usize {
+        self.case
+    }
+
+    fn step(&mut self) -> Result<Option<Words<'a>>, TextError> {
+        let Some(line) = self.rest.next() else {
+            return Ok(None);
+        };
+        self.last += 1;
+        match str::from_utf8(line) {
+            Ok(line) => Ok(Some(Words::new(self.last, line))),
+            Err(_) => Err(self.error("the text isn't UTF-8".into())),
+        }
     }
 }

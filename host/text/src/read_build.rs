@@ -1,7 +1,7 @@
 //! Reads a whole build.
 
 use crate::{
-    Build, Chunks, Count, Damage, Group, Module, Table, TextError,
+    Build, Chunks, Count, Damage, Group, Module, Quoted, Table, TextError,
     lines::Lines,
     read_leaf::{count_line, length_line},
     words::Words,
@@ -119,7 +119,7 @@ fn damage(lines: &mut Lines<'_>, modules: usize) -> Result<Damage, TextError> {
 fn step(words: &mut Words<'_>, stage: usize) -> Result<usize, TextError> {
     let word = words.word("`end`")?;
     match STEPS.iter().position(|step| *step == word) {
-        None => words.error(format!("`end` is expected, not `{word}`")),
+        None => words.error(format!("`end` is expected, not `{}`", Quoted(word))),
         Some(step) if step < stage => words.error(format!("`{word}` comes too late here")),
         Some(step) => Ok(step),
     }

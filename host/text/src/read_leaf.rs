@@ -1,15 +1,15 @@
 //! Reads a leaf call, with the `with` lines before it, and finds the start of a build.
 
 use crate::{
-    Capture, Case, Count, Cut, Damage, Filter, Merge, Question, Sim, Subgroup, Table, TextError,
-    lines::Lines, read_build, words::Words,
+    Capture, Case, Count, Cut, Damage, Filter, Merge, Question, Quoted, Sim, Subgroup, Table,
+    TextError, lines::Lines, read_build, words::Words,
 };
 
 /// The next case of a text, or `None` at its end.
 pub fn next_case(lines: &mut Lines<'_>) -> Result<Option<Case>, TextError> {
     let mut withs = Vec::new();
     loop {
-        let Some(mut words) = lines.between() else {
+        let Some(mut words) = lines.between()? else {
             return match withs.is_empty() {
                 true => Ok(None),
                 false => Err(lines.error("the text ends after `with`, without a call".into())),
@@ -17,7 +17,10 @@ pub fn next_case(lines: &mut Lines<'_>) -> Result<Option<Case>, TextError> {
         };
         match words.word("a call")? {
             "with" => withs.push(words),
-            command => return case(lines, command, words, withs).map(Some),
+            command => {
+                lines.begin_case();
+                return case(lines, command, words, withs).map(Some);
+            }
         }
     }
 }
@@ -31,7 +34,7 @@ fn case(
 ) -> Result<Case, TextError> {
     let known = ["chunks", "sim", "cut", "merge", "filter", "capture"];
     if !known.contains(&command) {
-        return words.error(format!("unknown call `{command}`"));
+        return words.error(format!("unknown call `{}`", Quoted(command)));
     }
     let tag = words.word("TAG")?.to_string();
     let question = match command {
@@ -171,7 +174,7 @@ fn with_line(
             damage.areas = Some(words.times(allowed.areas, |words| words.area("LENGTH"))?);
         }
         "areas" => return words.error("the call that follows has no areas"),
-        word => return words.error(format!("`with` can't be followed by `{word}`")),
+        word => return words.error(format!("`with` can't be followed by `{}`", Quoted(word))),
     }
     words.end()
 }
@@ -182,7 +185,7 @@ pub fn length_line(words: &mut Words<'_>, tables: &[Table]) -> Result<(Table, us
     let table = Table::named().find(|(table, name)| *name == word && tables.contains(table));
     match table {
         Some((table, _)) => Ok((table, words.length("LENGTH")?)),
-        None => words.error(format!("the call has no table `{word}`")),
+        None => words.error(format!("the call has no table `{}`", Quoted(word))),
     }
 }
 
@@ -193,6 +196,6 @@ pub fn count_line(words: &mut Words<'_>, counts: &[Count]) -> Result<(Count, u64
         Count::ALL.into_iter().find(|(count, name)| *name == word && counts.contains(count));
     match count {
         Some((count, _)) => Ok((count, words.number("VALUE")?)),
-        None => words.error(format!("the call has no count `{word}`")),
+        None => words.error(format!("the call has no count `{}`", Quoted(word))),
     }
 }

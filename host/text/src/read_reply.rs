@@ -1,19 +1,19 @@
 //! Reads replies, to compare them with others.
 
 use crate::{
-    Answer, Call, Chunk, ChunkList, CutAnswer, MergedSubgroup, Reply, TextError,
+    Answer, Call, Chunk, ChunkList, CutAnswer, MergedSubgroup, Quoted, Reply, TextError,
     lines::Lines,
     words::{Words, decimal, hexadecimal},
 };
 
 /// The next reply of a text, or `None` at its end. A line that begins with `!` is an error here.
 pub fn next_reply(lines: &mut Lines<'_>) -> Result<Option<Reply>, TextError> {
-    let Some(mut words) = lines.between() else {
+    let Some(mut words) = lines.between()? else {
         return Ok(None);
     };
     let word = words.word("a call")?;
     let Some(call) = Call::ALL.into_iter().find(|call| call.word() == word) else {
-        return words.error(format!("a reply can't begin with `{word}`"));
+        return words.error(format!("a reply can't begin with `{}`", Quoted(word)));
     };
     let tag = words.word("TAG")?.to_string();
     let mut ahead = words.clone();
@@ -71,7 +71,7 @@ fn marks(words: &mut Words<'_>) -> Result<Vec<u8>, TextError> {
     if word.bytes().all(|digit| digit == b'0' || digit == b'1') {
         return Ok(word.bytes().map(|digit| digit - b'0').collect());
     }
-    words.error(format!("marks are ones and zeros: `{word}`"))
+    words.error(format!("marks are ones and zeros: `{}`", Quoted(word)))
 }
 
 fn merged(words: &mut Words<'_>) -> Result<MergedSubgroup, TextError> {
@@ -79,7 +79,9 @@ fn merged(words: &mut Words<'_>) -> Result<MergedSubgroup, TextError> {
     let parts: Vec<&str> = word.split(':').collect();
     match subgroup(&parts) {
         Some(subgroup) => Ok(subgroup),
-        None => words.error(format!("a subgroup is FINAL:SIZE:W0:W1:W2:W3, not `{word}`")),
+        None => {
+            words.error(format!("a subgroup is FINAL:SIZE:W0:W1:W2:W3, not `{}`", Quoted(word)))
+        }
     }
 }
 

@@ -2,7 +2,7 @@
 
 use std::str::{FromStr, SplitWhitespace};
 
-use crate::{Options, Record, TextError};
+use crate::{Options, Quoted, Record, TextError};
 
 /// The longest table that a text may ask for, in entries.
 const LONGEST_TABLE: usize = 1 << 24;
@@ -35,6 +35,11 @@ impl<'a> Words<'a> {
         Err(TextError { line: self.line, message: message.into() })
     }
 
+    /// An error about a word that isn't what it has to be.
+    fn unlike<T>(&self, word: &str, message: &str) -> Result<T, TextError> {
+        self.error(format!("{message}: `{}`", Quoted(word)))
+    }
+
     /// The next word.
     pub fn word(&mut self, what: &str) -> Result<&'a str, TextError> {
         match self.rest.next() {
@@ -47,7 +52,7 @@ impl<'a> Words<'a> {
     pub fn exactly(&mut self, wanted: &str) -> Result<(), TextError> {
         match self.rest.next() {
             Some(word) if word == wanted => Ok(()),
-            Some(word) => self.error(format!("`{wanted}` is expected, not `{word}`")),
+            Some(word) => self.error(format!("`{wanted}` is expected, not `{}`", Quoted(word))),
             None => self.error(format!("`{wanted}` is expected, not an empty line")),
         }
     }
@@ -56,7 +61,9 @@ impl<'a> Words<'a> {
     pub fn end(&mut self) -> Result<(), TextError> {
         match self.rest.next() {
             None => Ok(()),
-            Some(word) => self.error(format!("nothing more is expected, but `{word}` follows")),
+            Some(word) => {
+                self.error(format!("nothing more is expected, but `{}` follows", Quoted(word)))
+            }
         }
     }
 
@@ -70,7 +77,7 @@ impl<'a> Words<'a> {
         let word = self.word(what)?;
         match decimal(word) {
             Some(number) => Ok(number),
-            None => self.error(format!("{what} is no decimal number in range: `{word}`")),
+            None => self.unlike(word, &format!("{what} is no decimal number in range")),
         }
     }
 
@@ -97,7 +104,7 @@ impl<'a> Words<'a> {
         let word = self.word(what)?;
         match hexadecimal(word) {
             Some(number) => Ok(number),
-            None => self.error(format!("{what} is no hexadecimal number of 64 bits: `{word}`")),
+            None => self.unlike(word, &format!("{what} is no hexadecimal number of 64 bits")),
         }
     }
 
@@ -111,7 +118,7 @@ impl<'a> Words<'a> {
         let word = self.word(what)?;
         match hexadecimal(word) {
             Some(bits) if word.len() == 16 => Ok(f64::from_bits(bits)),
-            _ => self.error(format!("{what} is no double of 16 hexadecimal digits: `{word}`")),
+            _ => self.unlike(word, &format!("{what} is no double of 16 hexadecimal digits")),
         }
     }
 
@@ -120,7 +127,7 @@ impl<'a> Words<'a> {
         match self.word(what)? {
             "1" => Ok(true),
             "0" => Ok(false),
-            word => self.error(format!("{what} is neither 1 nor 0: `{word}`")),
+            word => self.unlike(word, &format!("{what} is neither 1 nor 0")),
         }
     }
 
@@ -142,7 +149,7 @@ impl<'a> Words<'a> {
         let word = self.word(what)?;
         match pairs(word) {
             Some(bytes) => Ok(bytes),
-            None => self.error(format!("{what} is neither `.` nor hexadecimal pairs: `{word}`")),
+            None => self.unlike(word, &format!("{what} is neither `.` nor hexadecimal pairs")),
         }
     }
 

@@ -1,6 +1,6 @@
 //! A bad line gets a message with its number.
 
-use text::read_cases;
+use text::{Cases, read_cases, read_replies};
 
 /// The message for a text that can't be read.
 fn message(text: &str) -> String {
@@ -58,4 +58,60 @@ fn with_lines_fit_the_call_after_them() {
     );
     assert_eq!(message("with areas 1\n"), "line 1: the text ends after `with`, without a call");
     assert_eq!(message("# \nwith count g 1\nmerge a 0 0 -\n"), "line 2: the call has no count `g`");
+}
+
+#[test]
+fn a_long_word_is_shortened() {
+    let long = "7".repeat(10_000_000);
+    let shown = format!("{}... (10000000 bytes)", &long[..60]);
+    assert_eq!(message(&format!("{long} a . .\n")), format!("line 1: unknown call `{shown}`"));
+}
+
+#[test]
+fn a_long_word_is_shortened_wherever_it_stands() {
+    let long = "7".repeat(1_000);
+    for bad in [
+        format!("sim a . . {long}\n"),
+        format!("sim a {}x .\n", &long[1..]),
+        format!("cut a {long}\n"),
+        format!("filter a {long}\n"),
+        format!("merge a 0 0 {long}\n"),
+        format!("capture a 0 0 {long}\n"),
+        format!("with {long}\nmerge a 0 0 -\n"),
+        format!("with len {long} 0\nmerge a 0 0 -\n"),
+        format!("with count {long} 0\nmerge a 0 0 -\n"),
+        format!("chunks a 0 0 0 0 0 0\n{long}\n"),
+        format!("chunks a 0 0 0 0 0 0\no - - - - - -\n{long}\n"),
+    ] {
+        let message = message(&bad);
+        assert!(message.len() < 200 && message.contains("... (1000 bytes)"), "{message}");
+    }
+    let reply = read_replies(&format!("{long} a\n")).expect_err("no reply begins so").to_string();
+    assert!(reply.len() < 200, "{reply}");
+}
+
+#[test]
+fn what_a_terminal_would_obey_is_escaped() {
+    assert_eq!(message("\u{1b}[31mred\u{7} a\n"), "line 1: unknown call `\\u{1b}[31mred\\u{7}`");
+    assert_eq!(message("sim a \u{202e} .\n").matches("\\u{202e}").count(), 1);
+    assert_eq!(message("it's a\n"), "line 1: unknown call `it's`");
+}
+
+#[test]
+fn cases_before_a_line_that_is_not_utf_8_are_read() {
+    let mut cases = Cases::new(b"sim a . .\n\n# b\nsim b . .\n# \xff\nsim c . .\n");
+    assert_eq!(cases.next().map(|case| case.map(|case| case.tag)), Some(Ok("a".into())));
+    assert_eq!(cases.line(), 1);
+    assert_eq!(cases.next().map(|case| case.map(|case| case.tag)), Some(Ok("b".into())));
+    assert_eq!(cases.line(), 4);
+    let error = cases.next().and_then(Result::err).expect("the line is bad");
+    assert_eq!(error.to_string(), "line 5: the text isn't UTF-8");
+    assert_eq!(cases.next(), None);
+}
+
+#[test]
+fn a_build_with_a_line_that_is_not_utf_8_names_it() {
+    let text = b"chunks a 1 0 0 0 0 0\no - - - - - -\nm \xc3\n";
+    let error = Cases::new(text).next().and_then(Result::err).expect("the line is bad");
+    assert_eq!(error.to_string(), "line 3: the text isn't UTF-8");
 }
