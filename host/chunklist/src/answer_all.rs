@@ -2,14 +2,15 @@
 
 use std::io::{self, Write};
 
-use text::{Case, Cases, Reply};
+use text::{Case, Cases, Quoted, Reply};
 
-use crate::{Asked, ask};
+use crate::{Asked, ask, room::Room};
 
 /// What came beside the answers.
 #[derive(Debug, Clone, PartialEq, Eq, Default)]
 pub struct Messages {
-    /// A line that can't be read, which ends the text, with its number.
+    /// A line that can't be read or a call whose areas can't be had, which ends the text, with the
+    /// line's number.
     pub lines: Vec<String>,
     /// How many lines that begin with `!` were written.
     pub warnings: usize,
@@ -22,25 +23,47 @@ impl Messages {
     }
 }
 
-/// Writes the answer to each case of a text, up to the first line that can't be read.
+/// Writes the answer to each case of a text, up to the first line that can't be read or the first
+/// call whose areas can't be had.
 ///
 /// # Errors
 ///
 /// An answer can't be written.
-pub fn answer_all(text: &str, answers: &mut impl Write) -> io::Result<Messages> {
+pub fn answer_all(text: &[u8], answers: &mut impl Write) -> io::Result<Messages> {
     let mut messages = Messages::default();
-    for case in Cases::new(text) {
-        let case = match case {
-            Ok(case) => case,
-            Err(error) => {
-                messages.lines.push(error.to_string());
+    let mut cases = Cases::new(text);
+    while let Some(case) = cases.next() {
+        let roomy = |case| with_room(case, cases.line());
+        match case.map_err(|error| error.to_string()).and_then(roomy) {
+            Ok((case, room)) => messages.warnings += answer(case, room, answers)?,
+            Err(line) => {
+                messages.lines.push(line);
                 break;
             }
-        };
-        let asked = ask(&case.question);
-        messages.warnings += write_reply(case, asked, answers)?;
+        }
     }
     Ok(messages)
+}
+
+/// A case beside the room that its areas take; the error is a message about its line.
+fn with_room(case: Case, line: usize) -> Result<(Case, Room), String> {
+    let room = Room::of(&case.question);
+    let named = |error| {
+        let call = case.question.call().word();
+        format!("line {line}: {call} {}: {error}", Quoted(&case.tag))
+    };
+    room.check().map_err(named)?;
+    Ok((case, room))
+}
+
+/// Writes the answer to a case, and answers how many of its lines begin with `!`.
+fn answer(case: Case, room: Room, answers: &mut impl Write) -> io::Result<usize> {
+    if room.is_large() {
+        // If the system ends the program for the memory it takes, earlier answers are out.
+        answers.flush()?;
+    }
+    let asked = ask(&case.question);
+    write_reply(case, asked, answers)
 }
 
 /// Writes the reply to a case, and answers how many of its lines begin with `!`.

@@ -2,6 +2,8 @@
 
 use std::{ffi::OsString, path::PathBuf};
 
+use text::Quoted;
+
 /// What the program is asked for.
 #[derive(Debug, Clone, PartialEq, Eq)]
 pub enum Request {
@@ -20,7 +22,7 @@ pub fn request(arguments: impl IntoIterator<Item = OsString>) -> Result<Request,
             Some("--help" | "-h") if !only_files => return Ok(Request::Help),
             Some("--") if !only_files => only_files = true,
             Some(option) if !only_files && option.len() > 1 && option.starts_with('-') => {
-                return Err(format!("there is no option {option}"));
+                return Err(format!("there is no option {}", Quoted(option)));
             }
             _ => match file.replace(argument) {
                 None => {}

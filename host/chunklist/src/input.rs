@@ -6,6 +6,8 @@ use std::{
     path::{Path, PathBuf},
 };
 
+use text::Quoted;
+
 /// Where the text comes from.
 pub struct Source(pub Option<PathBuf>);
 
@@ -13,23 +15,18 @@ impl Source {
     /// Its name in messages.
     pub fn name(&self) -> String {
         match &self.0 {
-            Some(path) => path.display().to_string(),
+            Some(path) => Quoted(&path.to_string_lossy()).to_string(),
             None => "standard input".into(),
         }
     }
 
     /// The whole text; the error is a message.
-    pub fn text(&self) -> Result<String, String> {
+    pub fn text(&self) -> Result<Vec<u8>, String> {
         let bytes = match &self.0 {
             Some(path) => read_file(path),
             None => read_standard_input(),
         };
-        let bytes = bytes.map_err(|error| error.to_string())?;
-        String::from_utf8(bytes).map_err(|error| {
-            let good = &error.as_bytes()[..error.utf8_error().valid_up_to()];
-            let line = good.iter().filter(|byte| **byte == b'\n').count() + 1;
-            format!("line {line}: the text isn't UTF-8")
-        })
+        bytes.map_err(|error| error.to_string())
     }
 }
 

@@ -46,10 +46,27 @@ fn nothing_is_asked() {
 }
 
 #[test]
-fn a_text_that_is_not_utf_8_is_turned_away() {
-    let Ran { answers, messages, status } = run(&[], b"sim a . .\nsim \xff . .\n");
+fn what_stands_before_a_line_that_is_not_utf_8_is_answered() {
+    let Ran { answers, messages, status } = run(&[], b"sim a . .\nsim \xff . .\nsim c . .\n");
     assert_eq!(messages, "chunklist: standard input: line 2: the text isn't UTF-8\n");
-    assert_eq!((answers.as_str(), status), ("", Some(1)));
+    assert_eq!((answers.as_str(), status), ("sim a 0\n", Some(1)));
+}
+
+#[test]
+fn a_long_word_is_shortened_and_escape_codes_are_escaped() {
+    let long = format!("\u{1b}[2J{}", "x".repeat(10 << 20));
+    let Ran { answers, messages, status } = run(&[], format!("sim a . .\n{long}\n").as_bytes());
+    assert!(messages.starts_with("chunklist: standard input: line 2: unknown call `\\u{1b}[2Jx"));
+    assert!(messages.ends_with("... (10485764 bytes)`\n") && messages.len() < 200, "{messages}");
+    assert_eq!((answers.as_str(), status), ("sim a 0\n", Some(1)));
+}
+
+#[test]
+fn names_and_options_are_escaped() {
+    let file = run(&["no\u{1b}[31m-such-file"], b"").messages;
+    assert!(file.starts_with("chunklist: no\\u{1b}[31m-such-file: "), "{file}");
+    let option = run(&["--\u{1b}[31m"], b"").messages;
+    assert!(option.starts_with("chunklist: there is no option --\\u{1b}[31m;"), "{option}");
 }
 
 #[test]

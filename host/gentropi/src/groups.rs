@@ -71,17 +71,30 @@ const ENTRIES_AWARE: u8 = 128;
 /// assert_eq!(groups.as_tables().given, [2 + 32 + 64 + 128]);
 /// assert_eq!(groups.as_tables().max_size, [9.0]);
 /// ```
+///
+/// Each table may be changed by itself: the library tests their lengths.
 #[derive(Debug, Clone, PartialEq, Default)]
 pub struct GroupBuf {
-    given: Vec<u8>,
-    min_size: Vec<f64>,
-    max_size: Vec<f64>,
-    min_module_size: Vec<f64>,
-    max_module_size: Vec<f64>,
-    min_share_count: Vec<u32>,
-    tags: Vec<u64>,
-    priority: Vec<u32>,
-    threshold: Vec<f64>,
+    /// What each group has: a byte that sums 1 `min_size`, 2 `max_size`, 4 `min_module_size`,
+    /// 8 `max_module_size`, 16 `min_share_count`, 32 recursion is given, 64 it is on, 128 it is
+    /// entries-aware. What isn't given is not read.
+    pub given: Vec<u8>,
+    /// See [`Options::min_size`].
+    pub min_size: Vec<f64>,
+    /// See [`Options::max_size`].
+    pub max_size: Vec<f64>,
+    /// See [`Options::min_module_size`].
+    pub min_module_size: Vec<f64>,
+    /// See [`Options::max_module_size`].
+    pub max_module_size: Vec<f64>,
+    /// See [`Options::min_share_count`].
+    pub min_share_count: Vec<u32>,
+    /// See [`Group::tags`].
+    pub tags: Vec<u64>,
+    /// See [`Group::priority`].
+    pub priority: Vec<u32>,
+    /// See [`Group::threshold`].
+    pub threshold: Vec<f64>,
 }
 
 impl GroupBuf {

@@ -102,15 +102,19 @@ pub fn of_merge(merge: &Merge) -> MergeTables {
     let mut bits = merge.subgroups.iter().flat_map(|subgroup| subgroup.bits).collect();
     merge.damage.fit(Table::Sizes, &mut sizes);
     merge.damage.fit(Table::Bits, &mut bits);
-    let spare = merge.subgroups.len() + SPARE;
     MergeTables {
         k: merge.damage.count(Count::K, merge.subgroups.len() as u64),
         e: merge.damage.count(Count::E, merge.entries),
         threshold: merge.threshold.unwrap_or(0.0),
         sizes,
         bits,
-        areas: lengths(merge.damage.areas.as_deref(), [spare; 3]),
+        areas: areas_of_merge(merge),
     }
+}
+
+/// The lengths of a merge's areas for numbers, sizes and bits, each in subgroups.
+pub fn areas_of_merge(merge: &Merge) -> [usize; 3] {
+    lengths(merge.damage.areas.as_deref(), [merge.subgroups.len() + SPARE; 3])
 }
 
 /// The tables of a capture.
@@ -125,7 +129,7 @@ pub fn of_capture(capture: &Capture) -> CaptureTables {
         first: capture.first.clone(),
         dep_module: from_one(records().map(|record| record.module)),
         dep_next: from_one(records().map(|record| record.next)),
-        areas: lengths(capture.damage.areas.as_deref(), [capture.flags.len() + SPARE; 2]),
+        areas: areas_of_capture(capture),
     };
     capture.damage.fit(Table::Flags, &mut tables.flags);
     capture.damage.fit(Table::First, &mut tables.first);
@@ -134,10 +138,15 @@ pub fn of_capture(capture: &Capture) -> CaptureTables {
     tables
 }
 
+/// The lengths of a capture's areas for marks and scratch.
+pub fn areas_of_capture(capture: &Capture) -> [usize; 2] {
+    lengths(capture.damage.areas.as_deref(), [capture.flags.len() + SPARE; 2])
+}
+
 /// The tables of a build.
 pub fn of_chunks(chunks: &Chunks) -> BuildTables {
     let Chunks { build, damage } = chunks;
-    let mut tables = undamaged(build);
+    let mut tables = undamaged(build, areas_of_chunks(chunks));
     if let Some(other) = &damage.offsets {
         tables.offsets.clone_from(other);
     }
@@ -160,18 +169,26 @@ pub fn of_chunks(chunks: &Chunks) -> BuildTables {
     tables.e = damage.count(Count::E, tables.e);
     tables.k = damage.count(Count::K, tables.k);
     tables.d = damage.count(Count::D, tables.d);
-    let [chunk_of, next_of, first_of, .., scratch] = tables.areas;
-    let areas = lengths(damage.areas.as_deref(), [chunk_of, next_of, first_of, scratch]);
-    tables.areas = areas_of(areas, damage.records.as_deref());
     tables
 }
 
-/// The tables of a build without its damage, and areas with room to spare.
-fn undamaged(build: &Build) -> BuildTables {
+/// The lengths of a build's areas in the order of the call; unless it says, with room to spare.
+pub fn areas_of_chunks(chunks: &Chunks) -> [usize; 8] {
+    let Chunks { build, damage } = chunks;
+    let spare = build.modules.len() + SPARE;
+    let areas = match damage.areas {
+        // The need is not counted where it isn't asked for.
+        Some(_) => [0; 4],
+        None => [spare, spare, spare, scratch_need(build) + SPARE],
+    };
+    areas_of(lengths(damage.areas.as_deref(), areas), damage.records.as_deref())
+}
+
+/// The tables of a build without its damage, and areas of these lengths.
+fn undamaged(build: &Build, areas: [usize; 8]) -> BuildTables {
     let modules = || build.modules.iter();
     let records = || build.records.iter();
     let (ids, offsets) = slice_of(modules().map(|module| module.id.as_slice()));
-    let spare = build.modules.len() + SPARE;
     BuildTables {
         n: build.modules.len() as u64,
         g: build.groups.len() as u64,
@@ -194,7 +211,7 @@ fn undamaged(build: &Build) -> BuildTables {
         groups: build.groups.clone(),
         group_lengths: [build.groups.len(); 9],
         answers: build.answers.concat(),
-        areas: areas_of([spare, spare, spare, scratch_need(build) + SPARE], None),
+        areas,
     }
 }
 

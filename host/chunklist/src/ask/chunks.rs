@@ -6,7 +6,7 @@ use gentropi::{
 };
 use text::{Answer, Chunk, ChunkList, Chunks, Group, Options, tables, tables::BuildTables};
 
-use super::{Asked, count, fitted_groups::FittedGroups};
+use super::{Asked, count, fitted_groups::fitted};
 use crate::{Lent, Pattern};
 
 /// What came of a whole build, and the areas that were lent to the call.
@@ -22,7 +22,7 @@ pub struct AskedBuild {
 /// them.
 pub struct ReadyBuild {
     handed: BuildTables,
-    groups: FittedGroups,
+    groups: GroupBuf,
     areas: BuildAreas,
 }
 
@@ -30,8 +30,7 @@ impl ReadyBuild {
     /// Lays a build out.
     pub fn new(chunks: &Chunks) -> Self {
         let handed = tables::of_chunks(chunks);
-        let groups: GroupBuf = handed.groups.iter().map(group).collect();
-        let groups = FittedGroups::new(&groups.as_tables(), &chunks.damage);
+        let groups = fitted(handed.groups.iter().map(group).collect(), &chunks.damage);
         let areas = BuildAreas::new(handed.areas);
         Self { handed, groups, areas }
     }

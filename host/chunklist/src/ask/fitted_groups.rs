@@ -1,55 +1,18 @@
 //! The tables of groups, each with a length of its own.
 
-use gentropi::raw::GroupTables;
+use gentropi::GroupBuf;
 use text::{Damage, Table};
 
-/// Tables of groups that a case may have cut or lengthened.
-pub struct FittedGroups {
-    given: Vec<u8>,
-    min_size: Vec<f64>,
-    max_size: Vec<f64>,
-    min_module_size: Vec<f64>,
-    max_module_size: Vec<f64>,
-    min_share_count: Vec<u32>,
-    tags: Vec<u64>,
-    priority: Vec<u32>,
-    threshold: Vec<f64>,
-}
-
-impl FittedGroups {
-    /// Copies of these tables, with the lengths that the damage forces on them.
-    pub fn new(tables: &GroupTables<'_>, damage: &Damage) -> Self {
-        Self {
-            given: fitted(damage, Table::Given, tables.given),
-            min_size: fitted(damage, Table::MinSize, tables.min_size),
-            max_size: fitted(damage, Table::MaxSize, tables.max_size),
-            min_module_size: fitted(damage, Table::MinModuleSize, tables.min_module_size),
-            max_module_size: fitted(damage, Table::MaxModuleSize, tables.max_module_size),
-            min_share_count: fitted(damage, Table::MinShareCount, tables.min_share_count),
-            tags: fitted(damage, Table::Mask, tables.tags),
-            priority: fitted(damage, Table::Priority, tables.priority),
-            threshold: fitted(damage, Table::Threshold, tables.threshold),
-        }
-    }
-
-    /// The tables, to hand over.
-    pub fn as_tables(&self) -> GroupTables<'_> {
-        GroupTables {
-            given: &self.given,
-            min_size: &self.min_size,
-            max_size: &self.max_size,
-            min_module_size: &self.min_module_size,
-            max_module_size: &self.max_module_size,
-            min_share_count: &self.min_share_count,
-            tags: &self.tags,
-            priority: &self.priority,
-            threshold: &self.threshold,
-        }
-    }
-}
-
-fn fitted<T: Clone + Default>(damage: &Damage, table: Table, items: &[T]) -> Vec<T> {
-    let mut items = items.to_vec();
-    damage.fit(table, &mut items);
-    items
+/// These tables with the lengths that the damage forces on them.
+pub fn fitted(mut groups: GroupBuf, damage: &Damage) -> GroupBuf {
+    damage.fit(Table::Given, &mut groups.given);
+    damage.fit(Table::MinSize, &mut groups.min_size);
+    damage.fit(Table::MaxSize, &mut groups.max_size);
+    damage.fit(Table::MinModuleSize, &mut groups.min_module_size);
+    damage.fit(Table::MaxModuleSize, &mut groups.max_module_size);
+    damage.fit(Table::MinShareCount, &mut groups.min_share_count);
+    damage.fit(Table::Mask, &mut groups.tags);
+    damage.fit(Table::Priority, &mut groups.priority);
+    damage.fit(Table::Threshold, &mut groups.threshold);
+    groups
 }

@@ -1,5 +1,8 @@
 //! Runs the program.
 
+// Not every test file needs all of it.
+#![allow(dead_code)]
+
 use std::{
     io::Write,
     process::{Command, Output, Stdio},
@@ -16,8 +19,13 @@ pub struct Ran {
 /// Runs the program with arguments and a standard input.
 pub fn run(arguments: &[&str], input: &[u8]) -> Ran {
     let mut program = Command::new(env!("CARGO_BIN_EXE_chunklist"));
-    program.args(arguments).stdin(Stdio::piped()).stdout(Stdio::piped()).stderr(Stdio::piped());
-    let mut child = program.spawn().expect("the program can be run");
+    run_command(program.args(arguments).stdout(Stdio::piped()), input)
+}
+
+/// Runs a command with a standard input.
+pub fn run_command(command: &mut Command, input: &[u8]) -> Ran {
+    command.stdin(Stdio::piped()).stderr(Stdio::piped());
+    let mut child = command.spawn().expect("the command can be run");
     // A program that reads no input may have ended before it is written.
     let _ = child.stdin.take().expect("there is an input").write_all(input);
     let Output { status, stdout, stderr } = child.wait_with_output().expect("the program ends");
