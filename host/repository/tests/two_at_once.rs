@@ -140,8 +140,8 @@ fn a_changed_source_is_built_again() {
 #[test]
 fn a_closed_output_is_an_error() {
     let folder = repository(&["flock"]);
-    let mut shell = Command::new("sh");
-    shell.args(["-c", "exec ./chunklist >&-"]).current_dir(folder.path());
+    let mut shell = folder.command("bin/sh");
+    shell.args(["-c", "exec ./chunklist >&-"]);
     let Output { status, stderr, .. } = shell.output().expect("the shell can be run");
     let message = "chunklist: the answers can't be written: standard output is closed\n";
     assert_eq!((status.code(), String::from_utf8_lossy(&stderr).as_ref()), (Some(1), message));
