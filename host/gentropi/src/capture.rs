@@ -120,6 +120,12 @@ impl Chains {
     }
 
     /// Adds the list of one more module.
+    ///
+    /// ```
+    /// let mut chains = gentropi::Chains::from_lists([vec![1]]);
+    /// chains.push([0]);
+    /// assert_eq!(chains.modules(&[3, 3]).first, [1, 2]);
+    /// ```
     pub fn push(&mut self, dependencies: impl IntoIterator<Item = u32>) {
         let mut last = None;
         for module in dependencies {
@@ -140,6 +146,11 @@ impl Chains {
     }
 
     /// The tables beside the modules' flag bytes, to hand over.
+    ///
+    /// ```
+    /// let chains = gentropi::Chains::from_lists([vec![1], vec![]]);
+    /// assert_eq!(chains.modules(&[3, 7]).flags, [3, 7]);
+    /// ```
     pub fn modules<'a>(&'a self, flags: &'a [u8]) -> Modules<'a> {
         Modules { flags, first: &self.first, dependency: &self.dependency, next: &self.next }
     }

@@ -1,8 +1,6 @@
 //! The chunk list of a whole build.
 
-use std::collections::BTreeSet;
-
-use crate::{EntryBits, GroupBuf, Ids, Modules, Options, Refusal, raw};
+use crate::{EntryBits, GroupBuf, Ids, Modules, Options, Refusal, needs, raw};
 
 /// A whole build.
 #[derive(Debug, Clone, Copy)]
@@ -38,6 +36,21 @@ pub struct Build<'a> {
 
 impl<'a> Build<'a> {
     /// The tables of the call; the counts are those that the tables have room for.
+    ///
+    /// ```
+    /// # use gentropi::{Build, Chains, Group, GroupBuf, IdBuf, Options, flag::ELIGIBLE};
+    /// # let (ids, chains) = (IdBuf::from_iter(["a"]), Chains::from_lists([vec![]]));
+    /// # let groups = GroupBuf::from_iter([Group::default()]);
+    /// let build = Build {
+    ///     sizes: &[7],
+    /// #   modules: chains.modules(&[ELIGIBLE]), ids: ids.as_ids(), answers: &[0], orders: &[0],
+    /// #   shares: &[1], tags: &[0], bits: &[[1, 0, 0, 0]], entries: 1, names: 1,
+    /// #   options: Options::default(), groups: &groups, on_entry: 0,
+    ///     // one module, one group
+    /// };
+    /// let tables = build.tables();
+    /// assert_eq!((tables.n, tables.g, tables.sizes), (1, 1, &[7][..]));
+    /// ```
     pub fn tables(&self) -> raw::ChunksTables<'a> {
         let Modules { flags, first, dependency, next } = self.modules;
         let groups = self.groups.as_tables();
@@ -65,16 +78,23 @@ impl<'a> Build<'a> {
         }
     }
 
-    /// How many words of scratch the call needs: for each module 32, and one more for each pair of
-    /// a group and a name that an answer gives.
+    /// How many words of scratch the call needs (see [`needs::chunks_scratch_words`]).
+    ///
+    /// ```
+    /// # use gentropi::{Build, Chains, Group, GroupBuf, IdBuf, Options, flag::ELIGIBLE};
+    /// # let (ids, chains) = (IdBuf::from_iter(["a"]), Chains::from_lists([vec![]]));
+    /// # let groups = GroupBuf::from_iter([Group::default()]);
+    /// let build = Build {
+    ///     answers: &[2],
+    /// #   modules: chains.modules(&[ELIGIBLE]), ids: ids.as_ids(), sizes: &[1], orders: &[0],
+    /// #   shares: &[1], tags: &[0], bits: &[[1, 0, 0, 0]], entries: 1, names: 1,
+    /// #   options: Options::default(), groups: &groups, on_entry: 0,
+    ///     // one module, one group, one name
+    /// };
+    /// assert_eq!(build.scratch_words(), 33);
+    /// ```
     pub fn scratch_words(&self) -> usize {
-        let modules = self.modules.flags.len();
-        let named = |answers: &[u32]| {
-            let names: BTreeSet<u32> = answers.iter().copied().filter(|name| *name >= 2).collect();
-            names.len()
-        };
-        let pairs: usize = self.answers.chunks(modules.max(1)).map(named).sum();
-        (pairs + 32) * modules
+        needs::chunks_scratch_words(self.answers, self.modules.flags.len())
     }
 }
 
@@ -102,11 +122,54 @@ pub struct ChunksAreas<'a> {
 
 /// Divides the modules of a build among new chunks, writes them, and answers how many there are.
 ///
-/// Items of the areas past the modules, or past the new chunks, keep their content.
+/// Items of the areas past the modules, or past the new chunks, keep their content. [`needs`] says how
+/// long the areas have to be, and how much stack the call takes.
 ///
 /// # Errors
 ///
 /// Refused with 1 to 13. There are as many modules as flag bytes.
+///
+/// ```
+/// use gentropi::{Build, Chains, ChunksAreas, Group, GroupBuf, IdBuf, Options, chunks, flag, needs};
+///
+/// // Two modules, of which the first depends on the second, and a group that matches the first.
+/// let ids = IdBuf::from_iter(["a", "b"]);
+/// let chains = Chains::from_lists([vec![1], vec![]]);
+/// let groups = GroupBuf::from_iter([Group::default()]);
+/// let build = Build {
+///     modules: chains.modules(&[flag::ELIGIBLE; 2]),
+///     ids: ids.as_ids(),
+///     sizes: &[5, 7],
+///     orders: &[1, 0],
+///     shares: &[1, 1],
+///     tags: &[0, 0],
+///     bits: &[[1, 0, 0, 0]; 2],
+///     entries: 1,
+///     names: 1,
+///     options: Options::default(),
+///     groups: &groups,
+///     answers: &[2, 0],
+///     on_entry: 4,
+/// };
+/// let items = needs::chunks_items(2);
+/// let (mut chunk_of, mut next_of, mut first_of) = (vec![9; items], vec![9; items], vec![9; items]);
+/// let (mut group_of, mut name_of) = (vec![9; items], vec![9; items]);
+/// let (mut size_of, mut bits_of) = (vec![9.0; items], vec![[9; 4]; items]);
+/// let areas = ChunksAreas {
+///     chunk_of: &mut chunk_of,
+///     next_of: &mut next_of,
+///     first_of: &mut first_of,
+///     group_of: &mut group_of,
+///     name_of: &mut name_of,
+///     size_of: &mut size_of,
+///     bits_of: &mut bits_of,
+///     scratch: &mut vec![9; build.scratch_words()],
+/// };
+/// assert_eq!(chunks(&build, areas), Ok(1));
+/// // Both are in chunk 4, numbered plus 1: module 1 first, then module 0, which is the last.
+/// assert_eq!((chunk_of, first_of, next_of), (vec![5, 5], vec![2, 9], vec![0, 1]));
+/// assert_eq!((size_of, bits_of[0]), (vec![12.0, 9.0], [1, 0, 0, 0]));
+/// ```
 pub fn chunks(build: &Build<'_>, areas: ChunksAreas<'_>) -> Result<usize, Refusal> {
     let ChunksAreas { chunk_of, next_of, first_of, group_of, name_of, size_of, bits_of, scratch } =
         areas;

@@ -21,6 +21,11 @@ pub struct Options {
 
 impl Options {
     /// As the library takes them.
+    ///
+    /// ```
+    /// let options = gentropi::Options { min_size: Some(5.0), ..Default::default() };
+    /// assert_eq!((options.numbers().given, options.numbers().min_size), (1, 5.0));
+    /// ```
     pub fn numbers(&self) -> raw::OptionNumbers {
         let given = [
             self.min_size.is_some(),
@@ -99,6 +104,12 @@ pub struct GroupBuf {
 
 impl GroupBuf {
     /// Adds a group after the others.
+    ///
+    /// ```
+    /// let mut groups = gentropi::GroupBuf::default();
+    /// groups.push(gentropi::Group { priority: 7, ..Default::default() });
+    /// assert_eq!(groups.priority, [7]);
+    /// ```
     pub fn push(&mut self, group: Group) {
         let numbers = group.options.numbers();
         self.given.push(numbers.given | if group.entries_aware { ENTRIES_AWARE } else { 0 });
@@ -113,6 +124,11 @@ impl GroupBuf {
     }
 
     /// The tables, to hand over.
+    ///
+    /// ```
+    /// let groups = gentropi::GroupBuf::from_iter([gentropi::Group::default()]);
+    /// assert_eq!(groups.as_tables().given, [0]);
+    /// ```
     pub fn as_tables(&self) -> raw::GroupTables<'_> {
         raw::GroupTables {
             given: &self.given,

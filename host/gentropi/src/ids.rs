@@ -42,11 +42,21 @@ pub struct IdBuf {
 
 impl IdBuf {
     /// No ids.
+    ///
+    /// ```
+    /// assert_eq!(gentropi::IdBuf::new().as_ids().offsets, [0]);
+    /// ```
     pub fn new() -> Self {
         Self { bytes: Vec::new(), offsets: vec![0] }
     }
 
     /// Adds an id after the others.
+    ///
+    /// ```
+    /// let mut ids = gentropi::IdBuf::new();
+    /// ids.push("ui/a");
+    /// assert_eq!(ids.as_ids().bytes, b"ui/a");
+    /// ```
     pub fn push(&mut self, id: impl AsRef<[u8]>) {
         self.bytes.extend_from_slice(id.as_ref());
         // Past 2^32 bytes an id is too long or there are too many ids, and either is refused.
@@ -54,16 +64,28 @@ impl IdBuf {
     }
 
     /// How many ids there are.
+    ///
+    /// ```
+    /// assert_eq!(gentropi::IdBuf::from_iter(["a", "b"]).len(), 2);
+    /// ```
     pub fn len(&self) -> usize {
         self.offsets.len() - 1
     }
 
     /// Whether there are none.
+    ///
+    /// ```
+    /// assert!(gentropi::IdBuf::new().is_empty());
+    /// ```
     pub fn is_empty(&self) -> bool {
         self.len() == 0
     }
 
     /// The ids, to hand over.
+    ///
+    /// ```
+    /// assert_eq!(gentropi::IdBuf::from_iter(["a", "bc"]).as_ids().offsets, [0, 1, 3]);
+    /// ```
     pub fn as_ids(&self) -> Ids<'_> {
         Ids { bytes: &self.bytes, offsets: &self.offsets }
     }

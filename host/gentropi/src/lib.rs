@@ -16,8 +16,8 @@
 //!
 //! Areas are lent by the caller and may be longer than needed: what lies past the end keeps its
 //! content. [`capture_to_vec`], [`merge_to_vec`] and [`chunks_to_vec`] lend areas of their own. [`raw`]
-//! has the calls with counts apart from lengths, and [`sys`] the C functions. [`chunks`] takes some
-//! 500 KB of stack, the others little.
+//! has the calls with counts apart from lengths, and [`sys`] the C functions. [`needs`] says how long
+//! areas have to be and how much stack a call takes: [`chunks`] some 500 KB, the others little.
 //!
 //! # Example
 //!
@@ -44,8 +44,10 @@
 //! # Linking
 //!
 //! The build needs `libgentropi.a`, which `rt staticlib gentropi`, run at the root of the
-//! repository, proves and writes to `target/staticlib`. The variable `GENTROPI_LIB_DIR` names
-//! another folder for it.
+//! repository, proves and writes to `target/staticlib`. If it is older than a source of the library,
+//! the build warns and a test fails. The variable `GENTROPI_LIB_DIR` names another folder for it;
+//! whether an archive there belongs to these sources can't be told by its age, and isn't tested.
+//! For other languages there is a C header, `include/gentropi.h`.
 #![deny(unsafe_code)]
 #![warn(missing_docs)]
 
@@ -57,6 +59,7 @@ mod groups;
 mod ids;
 pub mod limits;
 mod merge;
+pub mod needs;
 #[allow(unsafe_code)]
 pub mod raw;
 mod refusal;
@@ -71,3 +74,8 @@ pub use groups::{Group, GroupBuf, Options};
 pub use ids::{IdBuf, Ids, similarity};
 pub use merge::{EntryBits, MergeAreas, Merged, Subgroups, merge, merge_to_vec};
 pub use refusal::Refusal;
+
+/// The Rust lines of the repository's README, compiled and run as they stand.
+#[cfg(doctest)]
+#[doc = include_str!(concat!(env!("OUT_DIR"), "/use_from_rust.md"))]
+pub struct UseFromRust;

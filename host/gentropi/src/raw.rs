@@ -24,6 +24,11 @@
 use crate::{FilteredModule, StaticFilter, sys};
 
 /// Similarity of two ids: writes `score`.
+///
+/// ```
+/// let mut score = 9;
+/// assert_eq!((gentropi::raw::similarity(b"a", b"j", &mut score), score), (0, 1));
+/// ```
 pub fn similarity(lhs: &[u8], rhs: &[u8], score: &mut u32) -> u32 {
     // SAFETY: every pointer is that of a live slice with its length, or of a live place; a place
     // is lent to this call alone. The library is proved to stay within them for every content.
@@ -61,6 +66,16 @@ pub struct CutPlaces {
 }
 
 /// Cut of modules in the order given: writes the places.
+///
+/// ```
+/// use gentropi::raw::{self, CutPlaces, CutTables};
+///
+/// let (bytes, offsets, sizes) = (b"ab", &[0, 1, 2], &[5, 7]);
+/// let tables = CutTables { n: 2, bytes, offsets, sizes, minimum: 0.0, maximum: 9.0 };
+/// let mut places = CutPlaces::default();
+/// assert_eq!(raw::cut(&tables, &mut places), 0);
+/// assert_eq!(places, CutPlaces { found: true, index: 1, left: 5.0, right: 7.0 });
+/// ```
 pub fn cut(tables: &CutTables<'_>, places: &mut CutPlaces) -> u32 {
     // SAFETY: as in `similarity`; the four places are fields of one value that is lent to this call.
     unsafe {
@@ -83,6 +98,14 @@ pub fn cut(tables: &CutTables<'_>, places: &mut CutPlaces) -> u32 {
 }
 
 /// Filter on one module: writes whether it passes.
+///
+/// ```
+/// use gentropi::{FilteredModule, StaticFilter, raw};
+///
+/// let mut passes = false;
+/// let number = raw::filter(&StaticFilter::default(), FilteredModule::default(), &mut passes);
+/// assert_eq!((number, passes), (0, true));
+/// ```
 pub fn filter(filter: &StaticFilter, module: FilteredModule, passes: &mut bool) -> u32 {
     // SAFETY: as in `similarity`.
     unsafe {
@@ -124,6 +147,27 @@ pub struct CaptureTables<'a> {
 }
 
 /// Capture of a module: writes the first `n` marks, and zeros into all of `scratch`.
+///
+/// ```
+/// use gentropi::raw::{self, CaptureTables};
+///
+/// // Module 0 depends on 1, by record 1; record 0 is never read.
+/// let tables = CaptureTables {
+///     n: 2,
+///     d: 1,
+///     recursive: true,
+///     start: 0,
+///     flags: &[3, 3],
+///     first: &[1, 0],
+///     dependency: &[9, 1],
+///     next: &[9, 0],
+/// };
+/// let (mut marks, mut scratch) = ([9; 2], [9; 2]);
+/// assert_eq!(raw::capture(&tables, &mut marks, &mut scratch), 0);
+/// assert_eq!((marks, scratch), ([1, 1], [0, 0]));
+/// // A scratch that is too short is refused, and the marks stay as they are.
+/// assert_eq!(raw::capture(&tables, &mut marks, &mut scratch[..1]), 13);
+/// ```
 pub fn capture(tables: &CaptureTables<'_>, marks: &mut [u8], scratch: &mut [u32]) -> u32 {
     // SAFETY: as in `similarity`; the areas are lent to this call alone.
     unsafe {
@@ -175,6 +219,17 @@ pub struct MergeAreas<'a> {
 }
 
 /// Merge of small subgroups: writes the first `k` numbers and sizes and `4 * k` words of bits.
+///
+/// ```
+/// use gentropi::raw::{self, MergeAreas, MergeTables};
+///
+/// let bits = &[1, 0, 0, 0, 2, 0, 0, 0];
+/// let tables = MergeTables { k: 2, entries: 2, sizes: &[5, 100], bits, threshold: 10.0 };
+/// let (mut numbers, mut sizes, mut bits) = ([9; 2], [9; 2], [9; 8]);
+/// let areas = MergeAreas { numbers: &mut numbers, sizes: &mut sizes, bits: &mut bits };
+/// assert_eq!(raw::merge(&tables, areas), 0);
+/// assert_eq!((numbers, sizes, bits), ([1, 1], [0, 105], [0, 0, 0, 0, 3, 0, 0, 0]));
+/// ```
 pub fn merge(tables: &MergeTables<'_>, areas: MergeAreas<'_>) -> u32 {
     // SAFETY: as in `similarity`; the areas are lent to this call alone.
     unsafe {
@@ -309,6 +364,53 @@ pub struct ChunksAreas<'a> {
 
 /// Chunks of a whole build: writes the first `n` items for modules, as many records as there are
 /// new chunks, zeros into all of `scratch`, and the count.
+///
+/// ```
+/// use gentropi::{GroupBuf, Options, raw};
+///
+/// // One module of 5 bytes, and a group without options that gives it name 0.
+/// let groups = GroupBuf::from_iter([gentropi::Group::default()]);
+/// let tables = raw::ChunksTables {
+///     n: 1,
+///     g: 1,
+///     e: 1,
+///     k: 1,
+///     d: 0,
+///     flags: &[3],
+///     sizes: &[5],
+///     orders: &[0],
+///     shares: &[1],
+///     tags: &[0],
+///     bits: &[1, 0, 0, 0],
+///     bytes: b"a",
+///     offsets: &[0, 1],
+///     first: &[0],
+///     dependency: &[0],
+///     next: &[0],
+///     options: Options::default().numbers(),
+///     groups: groups.as_tables(),
+///     answers: &[2],
+///     on_entry: 0,
+/// };
+/// let (mut chunk_of, mut next_of, mut first_of) = ([9], [9], [9]);
+/// let (mut group_of, mut name_of, mut size_of, mut bits_of) = ([9], [9], [9.0], [9; 4]);
+/// let (mut scratch, mut count) = ([9; 33], 9);
+/// let areas = raw::ChunksAreas {
+///     chunk_of: &mut chunk_of,
+///     next_of: &mut next_of,
+///     first_of: &mut first_of,
+///     group_of: &mut group_of,
+///     name_of: &mut name_of,
+///     size_of: &mut size_of,
+///     bits_of: &mut bits_of,
+///     scratch: &mut scratch,
+///     count: &mut count,
+/// };
+/// assert_eq!(raw::chunks(&tables, areas), 0);
+/// assert_eq!((count, chunk_of, next_of, first_of), (1, [1], [0], [1]));
+/// assert_eq!((group_of, name_of, size_of, bits_of), ([0], [0], [5.0], [1, 0, 0, 0]));
+/// assert_eq!(scratch, [0; 33]);
+/// ```
 pub fn chunks(tables: &ChunksTables<'_>, areas: ChunksAreas<'_>) -> u32 {
     let ChunksTables { options, groups, .. } = tables;
     // SAFETY: as in `similarity`; the areas are lent to this call alone.

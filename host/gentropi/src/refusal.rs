@@ -71,6 +71,13 @@ impl Refusal {
 
     /// What a function of [`raw`](crate::raw) answered: 0 is an acceptance, any other number a
     /// refusal.
+    ///
+    /// ```
+    /// use gentropi::Refusal;
+    ///
+    /// assert_eq!(Refusal::check(0), Ok(()));
+    /// assert_eq!(Refusal::check(12), Err(Refusal::AREA));
+    /// ```
     pub const fn check(number: u32) -> Result<(), Self> {
         match number {
             0 => Ok(()),
@@ -79,11 +86,19 @@ impl Refusal {
     }
 
     /// Its number.
+    ///
+    /// ```
+    /// assert_eq!(gentropi::Refusal::TOTAL.number(), 6);
+    /// ```
     pub const fn number(self) -> u32 {
         self.number
     }
 
     /// What its number means.
+    ///
+    /// ```
+    /// assert_eq!(gentropi::Refusal::TOTAL.meaning(), "the sizes add to more than 2^53");
+    /// ```
     pub const fn meaning(self) -> &'static str {
         match self.number {
             1 => "a count is above its limit",

@@ -4,6 +4,19 @@
 //! a refusal, and then nothing behind a `*mut` has changed. None has a condition on what it is
 //! handed: the library tests it. [`raw`](crate::raw) wraps each in a function that is safe to call.
 //!
+//! `include/gentropi.h` declares the same for C.
+//!
+//! ```
+//! use gentropi::sys;
+//!
+//! let (lhs, rhs, mut score) = (b"a", b"j", 9);
+//! // SAFETY: both slices and the place are live, and the place is lent to this call alone.
+//! let number = unsafe {
+//!     sys::gentropi_similarity(lhs.as_ptr(), lhs.len(), rhs.as_ptr(), rhs.len(), &mut score)
+//! };
+//! assert_eq!((number, score), (0, 1));
+//! ```
+//!
 //! # Safety
 //!
 //! What a caller owes is the same for all: a `*const T` points to as many readable items as the
@@ -96,7 +109,7 @@ unsafe extern "C" {
     /// 8 `max_module_size`, 16 `min_share_count`, 32 recursion is given, 64 it is on, and of a group
     /// 128 `entries_aware`; the number of an option that isn't given is not read. Writes the first
     /// `n` items of `chunk_of` and `next_of`, as many records as there are new chunks, zeros into
-    /// all of `scratch`, and `count`. It takes some 500 KB of stack.
+    /// all of `scratch`, and `count`. [`needs`](crate::needs) says how much stack it takes.
     pub fn gentropi_chunks(
         n: usize,
         g: usize,
