@@ -78,8 +78,13 @@ enum gentropi_answer {
     GENTROPI_FIRST_NAME = 2
 };
 
-/* How much stack a call takes at most, in bytes: measured, with room to spare. */
-#define GENTROPI_LEAF_STACK_BYTES ((size_t)65536)
+/* How much stack a call takes at most, in bytes, whatever it is handed: the frames of the archive's functions are fixed and none
+ * calls itself. A test adds them up. */
+#define GENTROPI_SIMILARITY_STACK_BYTES ((size_t)4096)
+#define GENTROPI_CUT_STACK_BYTES ((size_t)4096)
+#define GENTROPI_FILTER_STACK_BYTES ((size_t)4096)
+#define GENTROPI_CAPTURE_STACK_BYTES ((size_t)163840)
+#define GENTROPI_MERGE_STACK_BYTES ((size_t)32768)
 #define GENTROPI_CHUNKS_STACK_BYTES ((size_t)524288)
 
 /* Similarity of two ids. Writes `score`. */

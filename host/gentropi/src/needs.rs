@@ -29,24 +29,27 @@ impl Call {
         [Self::Similarity, Self::Cut, Self::Filter, Self::Capture, Self::Merge, Self::Chunks];
 }
 
-/// How much stack a call takes at most, in bytes. It is measured over many inputs, with room to
-/// spare, and not proved.
+/// How much stack a call takes at most, in bytes, whatever it is handed: the frames of the archive's
+/// functions are fixed and none calls itself. It isn't proved; a test adds the frames up.
 ///
 /// ```
 /// use std::thread;
 /// use gentropi::needs::{self, Call};
 ///
 /// // What a thread needs besides is its own.
-/// let stack = needs::stack_bytes(Call::Similarity) + 16 * 1024;
+/// let stack = needs::stack_bytes(Call::Similarity) + 64 * 1024;
 /// let work = || gentropi::similarity(b"src/a", b"src/b");
 /// let thread = thread::Builder::new().stack_size(stack).spawn(work).unwrap();
 /// assert_eq!(thread.join().unwrap(), Ok(49));
 /// ```
 pub const fn stack_bytes(call: Call) -> usize {
-    match call {
-        Call::Chunks => 512 * 1024,
-        _ => 64 * 1024,
-    }
+    let kilobytes = match call {
+        Call::Similarity | Call::Cut | Call::Filter => 4,
+        Call::Capture => 160,
+        Call::Merge => 32,
+        Call::Chunks => 512,
+    };
+    kilobytes * 1_024
 }
 
 /// How many marks and how many words of scratch [`capture`](crate::capture) needs.

@@ -49,8 +49,8 @@ fn limits_are_the_same() {
 fn stacks_are_the_same() {
     let header = header();
     for call in Call::ALL {
-        let name = if call == Call::Chunks { "CHUNKS_STACK_BYTES" } else { "LEAF_STACK_BYTES" };
-        assert_eq!(defined(&header, name), needs::stack_bytes(call) as u64, "{call:?}");
+        let name = format!("{call:?}_STACK_BYTES").to_uppercase();
+        assert_eq!(defined(&header, &name), needs::stack_bytes(call) as u64, "{call:?}");
     }
 }
 
