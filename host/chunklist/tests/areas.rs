@@ -15,26 +15,39 @@ fn more_than_a_call_may_ask_for() {
     let Ran { answers, messages, status } = run(&[], BUILD.as_bytes());
     assert_eq!(
         messages,
-        "chunklist: standard input: line 2: chunks b: its areas take 68719476736 bytes, and at most \
-         8589934592 can be lent\n"
+        "chunklist: standard input: line 2: chunks b: its areas and lengthened tables \
+         take 68719476736 bytes, above 8589934592\n"
+    );
+    assert_eq!((answers.as_str(), status), ("sim a 0\n", Some(1)));
+}
+
+/// Runs the program where it may have two gigabytes of memory, on a call between two others.
+fn limited(call: &str) -> Ran {
+    let mut shell = Command::new("sh");
+    let limited = "ulimit -v 2000000 && exec \"$1\"";
+    shell.args(["-c", limited, "sh", env!("CARGO_BIN_EXE_chunklist")]).stdout(Stdio::piped());
+    run_command(&mut shell, format!("sim a . .\n{call}sim c . .\n").as_bytes())
+}
+
+/// That the first call is answered, and of the second it is said how much it would take.
+fn is_told(ran: Ran, named: &str, bytes: u64) {
+    let Ran { answers, messages, status } = ran;
+    assert_eq!(
+        messages,
+        format!(
+            "chunklist: standard input: {named}: its areas and lengthened tables take {bytes} bytes, \
+             above the memory that there is\n"
+        )
     );
     assert_eq!((answers.as_str(), status), ("sim a 0\n", Some(1)));
 }
 
 #[test]
 fn more_than_there_is_memory_for() {
-    // The shell lets the program have two gigabytes; the marks take one and the scratch four.
-    let mut shell = Command::new("sh");
-    let limited = "ulimit -v 2000000 && exec \"$1\"";
-    shell.args(["-c", limited, "sh", env!("CARGO_BIN_EXE_chunklist")]).stdout(Stdio::piped());
-    let text = "sim a . .\nwith areas 1073741824 1073741824\ncapture b 1 0 0 0 3 0\nsim c . .\n";
-    let Ran { answers, messages, status } = run_command(&mut shell, text.as_bytes());
-    assert_eq!(
-        messages,
-        "chunklist: standard input: line 3: capture b: its areas take 5368709120 bytes, and there \
-         is not as much memory\n"
-    );
-    assert_eq!((answers.as_str(), status), ("sim a 0\n", Some(1)));
+    let areas = limited("with areas 1073741824 1073741824\ncapture b 1 0 0 0 3 0\n");
+    is_told(areas, "line 3: capture b", 5 << 30);
+    let build = "chunks b 0 0 0 0 0 0\no - - - - - -\nlen groups 16777216\nareas 0 0 0 0\nend\n";
+    is_told(limited(build), "line 2: chunks b", 4 << 30);
 }
 
 #[test]

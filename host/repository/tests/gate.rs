@@ -18,6 +18,7 @@ exit \"${status:-0}\"
 const CARGO: &str = "#!/bin/sh
 for last; do :; done
 echo \"cargo $1 $last\" >>log
+[ ! -f slow ] || sleep 60
 case \" $* \" in *' --offline '*) ;; *) exit 9 ;; esac
 [ \"$1\" != check ] || [ -f \"$GENTROPI_LIB_DIR/libgentropi.a\" ] || exit 9
 [ \"$1\" != test ] || [ -z \"${GENTROPI_LIB_DIR-}\" ] || exit 9
@@ -34,16 +35,22 @@ struct Gate {
 }
 
 fn gate(failing: &[(&str, &str)]) -> Gate {
+    let failing: Vec<_> =
+        failing.iter().map(|(name, status)| (format!("fail-{name}"), *status)).collect();
+    run(&read(".ci/run"), &failing)
+}
+
+/// Runs a gate where these files stand.
+fn run(gate: &str, files: &[(String, &str)]) -> Gate {
     let folder = ScratchFolder::new("gate");
-    folder.write_script(".ci/run", &read(".ci/run"));
+    folder.write_script(".ci/run", gate);
     folder.link_commands(&[
-        "awk", "bash", "cat", "dirname", "env", "mkdir", "mktemp", "rm", "sh", "tail", "timeout",
+        "awk", "bash", "cat", "dirname", "env", "mkdir", "mktemp", "rm", "sh", "sleep", "tail",
+        "timeout",
     ]);
     folder.write_script("bin/rt", RT);
     folder.write_script("bin/cargo", CARGO);
-    for (name, status) in failing {
-        folder.write(&format!("fail-{name}"), status);
-    }
+    files.iter().for_each(|(name, text)| folder.write(name, text));
     let mut command = folder.command(".ci/run");
     command.env("GENTROPI_LIB_DIR", "elsewhere");
     let Output { status, stdout, .. } = command.output().expect("the gate can be run");
@@ -97,4 +104,14 @@ fn tests_that_link_the_library_fail_the_gate_too() {
 fn a_library_that_is_not_built_fails_the_gate() {
     let Gate { last, status, .. } = gate(&[("staticlib", "1")]);
     assert_eq!((last.as_str(), status), ("gate: the library was not built", Some(1)));
+}
+
+#[test]
+fn tests_that_take_too_long_fail_the_gate() {
+    let text = read(".ci/run");
+    let short = text.replace("before=600", "before=1");
+    assert_ne!(text, short, "the gate has a time limit");
+    let Gate { log, last, status } = run(&short, &[("slow".into(), "")]);
+    assert_eq!((log.as_str(), status), ("cargo test repository\n", Some(1)));
+    assert_eq!(last, "gate: the host's tests without the library FAILED");
 }
