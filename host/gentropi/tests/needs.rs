@@ -71,7 +71,7 @@ impl Owned {
         let options = Options { min_size: Some(1.0), max_size: Some(40.0), ..Options::default() };
         let group = |group: u32| Group {
             options,
-            entries_aware: group % 2 == 0,
+            entries_aware: group.is_multiple_of(2),
             threshold: 20.0,
             ..Group::default()
         };

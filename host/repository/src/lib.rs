@@ -13,7 +13,7 @@ use std::{
 };
 
 pub use functions::{Function, declared, in_c, in_rust};
-pub use scratch_folder::ScratchFolder;
+pub use scratch_folder::{ScratchFolder, command};
 
 /// The root of the repository.
 pub fn root() -> PathBuf {

@@ -50,7 +50,7 @@ impl ScratchFolder {
     pub fn link_commands(&self, names: &[&str]) {
         fs::create_dir_all(self.0.join("bin")).expect("a folder");
         for name in names {
-            let path = found(name).unwrap_or_else(|| panic!("there is no command {name}"));
+            let path = command(name).unwrap_or_else(|| panic!("there is no command {name}"));
             std::os::unix::fs::symlink(path, self.0.join("bin").join(name)).expect("a link");
         }
     }
@@ -69,8 +69,8 @@ impl Drop for ScratchFolder {
     }
 }
 
-/// Where a command of the system is.
-fn found(name: &str) -> Option<PathBuf> {
+/// Where a command of the system is, if there is one of that name.
+pub fn command(name: &str) -> Option<PathBuf> {
     let path = std::env::var_os("PATH")?;
     std::env::split_paths(&path).map(|folder| folder.join(name)).find(|file| file.is_file())
 }

@@ -6,13 +6,13 @@ use std::{
     process::{Child, Command, Output, Stdio},
 };
 
-use repository::{ScratchFolder, read};
+use repository::{ScratchFolder, command, read};
 
-/// Takes a second to prove, and can't be run twice at once.
+/// Takes two seconds to prove, and can't be run twice at once.
 const RT: &str = "#!/bin/sh
 mkdir running || { echo 'rt: gentropi NOT PROVED'; exit 1; }
 echo \"rt $*\" >>log
-sleep 1
+sleep 2
 mkdir -p target/staticlib
 : >target/staticlib/libgentropi.a
 rmdir running
@@ -35,8 +35,17 @@ const COMMANDS: [&str; 13] = [
     "tee", "touch",
 ];
 
-/// A repository in small, with these commands besides.
-fn repository(more: &[&str]) -> ScratchFolder {
+/// A repository in small, with `flock` where the system has it.
+fn with_flock() -> ScratchFolder {
+    let folder = without_flock();
+    if command("flock").is_some() {
+        folder.link_commands(&["flock"]);
+    }
+    folder
+}
+
+/// A repository in small.
+fn without_flock() -> ScratchFolder {
     let folder = ScratchFolder::new("chunklist");
     folder.write_script("chunklist", &read("chunklist"));
     for source in ["crates.txt", "crates/a/source", "host/Cargo.toml"] {
@@ -46,7 +55,6 @@ fn repository(more: &[&str]) -> ScratchFolder {
         folder.write(&format!("host/{package}/source"), "");
     }
     folder.link_commands(&COMMANDS);
-    folder.link_commands(more);
     folder.write_script("bin/rt", RT);
     folder.write_script("bin/cargo", CARGO);
     folder
@@ -81,19 +89,19 @@ fn two_calls(folder: &ScratchFolder) {
 
 #[test]
 fn two_calls_with_flock() {
-    two_calls(&repository(&["flock"]));
+    two_calls(&with_flock());
 }
 
 #[test]
 fn two_calls_without_flock() {
-    let folder = repository(&[]);
+    let folder = without_flock();
     two_calls(&folder);
     assert!(!folder.path().join("host/target/chunklist.lock.d").exists());
 }
 
 #[test]
 fn what_is_built_is_not_built_again() {
-    let folder = repository(&["flock"]);
+    let folder = with_flock();
     two_calls(&folder);
     let (answers, messages, _) = ended(started(&folder));
     assert_eq!((answers.as_str(), messages.as_str()), ("answered\n", ""));
@@ -112,13 +120,13 @@ fn both_fail(folder: &ScratchFolder) {
 
 #[test]
 fn a_failed_build_frees_the_lock() {
-    both_fail(&repository(&["flock"]));
-    both_fail(&repository(&[]));
+    both_fail(&with_flock());
+    both_fail(&without_flock());
 }
 
 #[test]
 fn a_folder_whose_maker_is_gone_is_named() {
-    let folder = repository(&[]);
+    let folder = without_flock();
     let mut gone = Command::new("true").spawn().expect("a process");
     let number = gone.id();
     gone.wait().expect("it ends");
@@ -130,7 +138,7 @@ fn a_folder_whose_maker_is_gone_is_named() {
 
 #[test]
 fn a_changed_source_is_built_again() {
-    let folder = repository(&["flock"]);
+    let folder = with_flock();
     two_calls(&folder);
     fs::remove_file(folder.path().join("log")).expect("the log is there");
     folder.write("crates/a/source", "changed");
@@ -139,7 +147,7 @@ fn a_changed_source_is_built_again() {
 
 #[test]
 fn a_closed_output_is_an_error() {
-    let folder = repository(&["flock"]);
+    let folder = with_flock();
     let mut shell = folder.command("bin/sh");
     shell.args(["-c", "exec ./chunklist >&-"]);
     let Output { status, stderr, .. } = shell.output().expect("the shell can be run");
