@@ -13,6 +13,7 @@
 
 pub mod case;
 pub mod damage;
+pub mod drawn;
 mod lines;
 mod read_build;
 mod read_leaf;

@@ -226,7 +226,10 @@ fn from_one(numbers: impl Iterator<Item = u32>) -> Vec<u32> {
 
 /// The areas of a build from the lengths for modules (twice), chunk records and scratch; those of
 /// the records may be told apart.
-fn areas_of([chunk_of, next_of, records, scratch]: [usize; 4], apart: Option<&[usize]>) -> [usize; 8] {
+fn areas_of(
+    [chunk_of, next_of, records, scratch]: [usize; 4],
+    apart: Option<&[usize]>,
+) -> [usize; 8] {
     let [first, group, name, size, bits] =
         lengths(apart, [records, records, records, records, 4 * records]);
     [chunk_of, next_of, first, group, name, size, bits, scratch]
