@@ -15,6 +15,7 @@
 mod answer_all;
 mod area;
 mod ask;
+pub mod tree;
 
 pub use answer_all::{Messages, answer_all};
 pub use area::{Lent, Pattern};

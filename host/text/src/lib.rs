@@ -20,6 +20,7 @@ mod read_leaf;
 mod read_reply;
 pub mod reply;
 pub mod tables;
+pub mod tree;
 mod words;
 mod write_case;
 mod write_reply;
