@@ -30,7 +30,7 @@ pub fn show_tree(request: &TreeRequest) -> ExitCode {
 fn read(source: &Source, request: &TreeRequest) -> Result<TreeBuild, String> {
     let text = source.text()?;
     let _progress = Progress::of(format!("reading {}", source.name()));
-    TreeBuild::read(&text, request.shuffle).map_err(|error| error.to_string())
+    TreeBuild::read(&text, &source.stem(), request.shuffle).map_err(|error| error.to_string())
 }
 
 /// Asks the library and shows what it answers.

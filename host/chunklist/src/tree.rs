@@ -27,6 +27,8 @@ use crate::ask_build;
 /// A tree with its numbers.
 #[derive(Debug, Clone)]
 pub struct TreeBuild {
+    /// The title that is written, or the one that its source gives it.
+    pub title: String,
     /// As it was written.
     pub tree: Tree,
     /// What the host makes of it.
@@ -52,15 +54,17 @@ pub struct HostReading {
 }
 
 impl TreeBuild {
-    /// Reads a tree and numbers what it names; a seed draws the load numbers.
+    /// Reads a tree and numbers what it names; a seed draws the load numbers. Its source gives it a
+    /// title if it has none itself.
     ///
     /// # Errors
     ///
     /// The first line that can't be read, and what was expected there.
-    pub fn read(text: &str, seed: Option<u32>) -> Result<Self, TextError> {
+    pub fn read(text: &str, source: &str, seed: Option<u32>) -> Result<Self, TextError> {
         let tree = read_tree(text)?;
         let numbered = tree.numbered(seed)?;
-        Ok(Self { tree, numbered })
+        let title = tree.title.clone().unwrap_or_else(|| one_word(source));
+        Ok(Self { title, tree, numbered })
     }
 
     /// Puts the build to the library, with areas lent that show where it wrote.
@@ -83,4 +87,10 @@ impl TreeBuild {
     fn call(&self) -> Chunks {
         Chunks { build: self.numbered.build.clone(), damage: Damage::default() }
     }
+}
+
+/// A title of one word, since it is the tag of a call.
+fn one_word(source: &str) -> String {
+    let words: Vec<&str> = source.split_whitespace().collect();
+    if words.is_empty() { "tree".into() } else { words.join("-") }
 }

@@ -26,8 +26,8 @@ use crate::Options;
 /// A build as a person writes it.
 #[derive(Debug, Clone, PartialEq)]
 pub struct Tree {
-    /// One word; it is the tag of the build as a call.
-    pub title: String,
+    /// One word, if it is said; it is the tag of the build as a call.
+    pub title: Option<String>,
     pub order: Order,
     pub count_on_entry: u64,
     /// Options of the build as a whole.
@@ -98,7 +98,7 @@ pub struct TreeGroup {
 impl Default for Tree {
     fn default() -> Self {
         Self {
-            title: "tree".into(),
+            title: None,
             order: Order::Lines,
             count_on_entry: 0,
             options: Options::default(),

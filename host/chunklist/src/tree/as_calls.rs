@@ -6,8 +6,8 @@ use super::TreeBuild;
 
 /// The build as a case of docs/TEXT-FORM.md.
 pub fn as_calls(build: &TreeBuild) -> String {
-    let TreeBuild { tree, numbered } = build;
-    let mut text = format!("# {}: what its numbers stand for\n", tree.title);
+    let TreeBuild { title, tree, numbered } = build;
+    let mut text = format!("# {title}: what its numbers stand for\n");
     let mut note = |what: &str, names: &mut dyn Iterator<Item = &str>| {
         for (number, name) in names.enumerate() {
             text.push_str(&format!("# {what} {number} {name}\n"));
@@ -19,6 +19,6 @@ pub fn as_calls(build: &TreeBuild) -> String {
     note("tag", &mut numbered.tags.iter().map(String::as_str));
     note("module", &mut numbered.places.iter().map(|place| tree.modules[*place].id.as_str()));
     let question = Question::Chunks(Box::new(build.call()));
-    text.push_str(&Case { tag: tree.title.clone(), question }.to_string());
+    text.push_str(&Case { tag: title.clone(), question }.to_string());
     text
 }

@@ -70,7 +70,7 @@ impl Shown {
             (0..list.chunk_of.len()).filter(|load| list.chunk_of[*load] == 0).collect();
         left.sort_by_key(|load| build.numbered.places[*load]);
         Self {
-            title: tree.title.clone(),
+            title: build.title.clone(),
             entries: tree.entries.iter().map(|entry| entry.name.clone()).collect(),
             groups: tree.groups.iter().map(|group| group.label.clone()).collect(),
             chunks: list.chunks.iter().map(chunk).collect(),

@@ -110,9 +110,12 @@ impl<'a> Why<'a> {
         let group = &self.build.tree.groups[chunk.group];
         let max_size = group.options.max_size.or(self.build.tree.options.max_size);
         let oversized = max_size.filter(|max_size| turn.size as f64 > *max_size);
-        let oversized = oversized.map(|max_size| {
-            format!("It is above max_size {max_size}; no cut leaves min_size on both sides.")
-        });
+        let reason = match turn.modules {
+            1 => "one module can't be cut",
+            _ => "no cut leaves min_size on both sides",
+        };
+        let oversized =
+            oversized.map(|max_size| format!("It is above max_size {max_size}; {reason}."));
         let aware = group.entries_aware == Some(true);
         let aware = aware.then(|| "Its entries are those of its subgroup before anything left it.");
         oversized.into_iter().chain(aware.map(String::from)).collect()
@@ -156,7 +159,7 @@ impl<'a> Why<'a> {
 fn cut(turn: &Turn) -> Option<String> {
     let Fate::Cut { left, right } = turn.fate else { return None };
     let what = if turn.piece { "A piece" } else { "It" };
-    Some(format!("{what} of {} bytes was cut into {left} and {right}, in id order.", turn.size))
+    Some(format!("{what}, of {} bytes, was cut into {left} and {right}, in id order.", turn.size))
 }
 
 /// Whether the host's reading agrees with the library, in words.

@@ -1,4 +1,8 @@
 //! Runs the program.
+#![allow(dead_code, reason = "each test uses a part of it")]
+
+pub mod browser;
+pub mod samples;
 
 use std::{
     io::Write,

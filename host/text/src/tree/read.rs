@@ -91,7 +91,7 @@ impl Reader {
             _ => self.said.once(&format!("`{word}`"), words)?,
         }
         match word {
-            "tree" => self.tree.title = title(words)?,
+            "tree" => self.tree.title = Some(title(words)?),
             "order" => self.tree.order = order(words)?,
             "count_on_entry" => self.tree.count_on_entry = words.number(u64::MAX)?,
             _ => return Ok(Owner::Options),

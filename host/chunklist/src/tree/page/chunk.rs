@@ -32,10 +32,13 @@ impl Page<'_> {
         self.window.map_or(100.0, |window| percent(window, self.scale()))
     }
 
+    fn is_above(&self, chunk: &ShownChunk) -> bool {
+        self.window.is_some_and(|window| chunk.size > window)
+    }
+
     /// A chunk.
     pub fn chunk(&self, chunk: &ShownChunk) -> String {
-        let above = self.window.filter(|window| chunk.size > *window);
-        let class = if above.is_some() { "chunk above" } else { "chunk" };
+        let class = if self.is_above(chunk) { "chunk above" } else { "chunk" };
         let entries: Vec<String> = chunk.entries.iter().map(ToString::to_string).collect();
         let mut html = format!(
             "<article class=\"{class}\" id=\"chunk-{}\" data-group=\"{}\" data-name=\"{}\" \
@@ -118,7 +121,7 @@ impl Page<'_> {
         )
     }
 
-    /// Why a chunk is what it is.
+    /// Why a chunk is what it is; of one above the window it shows at once.
     fn why(&self, chunk: &ShownChunk) -> String {
         let group = &self.build.tree.groups[chunk.group];
         let tests: Vec<String> = group
@@ -130,10 +133,11 @@ impl Page<'_> {
         let options: String =
             options_in_force(&self.build.tree, group).iter().map(option).collect();
         format!(
-            "<details><summary>why</summary>\n\
+            "<details{}><summary>why</summary>\n\
              <p>Group {} (line {}) matches {tests}; the name is <code>{}</code>.</p>\n\
              <table class=\"options\">\n<tr><th>option in force</th><th>value</th><th>from</th></tr>\n\
              {options}</table>\n<div class=\"reading\"><p>{NOT_PROVED}</p>\n{}{}</div></details>\n",
+            if self.is_above(chunk) { " open" } else { "" },
             escaped(&group.label),
             group.line,
             escaped(&group.name.text),

@@ -13,11 +13,12 @@ pub fn head(page: &Page<'_>, reading: &HostReading) -> String {
     let verdict = escaped(&why::verdict(reading, page.shown));
     let kind = if reading.agrees { "agrees" } else { "differs" };
     format!(
-        "<header>\n<h1>{}</h1>\n{}{}<p class=\"{kind}\" role=\"note\" id=\"reading\">{verdict} \
+        "<header>\n<h1>{}: chunks</h1>\n{}{}{}<p class=\"{kind}\" role=\"note\" id=\"reading\">{verdict} \
          {}</p>\n</header>\n",
         escaped(&page.shown.title),
         totals(page),
         filters(page),
+        legend(page),
         super::chunk::NOT_PROVED
     )
 }
@@ -41,6 +42,14 @@ fn totals(page: &Page<'_>) -> String {
     html + "</dl>\n"
 }
 
+/// How the bars are to be read.
+fn legend(page: &Page<'_>) -> String {
+    let bars = "A bar is a chunk, its parts are its modules, the largest first.";
+    let window = "The double line marks the window; a striped bar is above it.";
+    let window = if page.window.is_some() { window } else { "" };
+    format!("<p class=\"legend\">{bars} {window}</p>\n")
+}
+
 /// The filters, which the script shows.
 fn filters(page: &Page<'_>) -> String {
     let shown = page.shown;
@@ -59,7 +68,7 @@ fn filters(page: &Page<'_>) -> String {
             "<label><input type=\"checkbox\" id=\"above\"> only above the window</label>\n",
         );
     }
-    html + "<button type=\"reset\">all</button>\n</form>\n"
+    html + "<button type=\"reset\">show all</button>\n</form>\n"
 }
 
 fn select(id: &str, options: &[(String, String)]) -> String {
