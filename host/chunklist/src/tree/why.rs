@@ -1,6 +1,6 @@
 //! Why a chunk is what it is, by the host's own reading of document 01. Nothing of it is proved.
 
-use std::collections::BTreeMap;
+use std::collections::{BTreeMap, BTreeSet};
 
 use reading::story::{Fate, Planned, Turn};
 use text::ChunkList;
@@ -14,7 +14,12 @@ pub struct Why<'a> {
     reading: &'a HostReading,
     /// For each chunk, the place of its turn.
     turns: BTreeMap<u32, usize>,
+    /// Matched modules that failed a group's filter, as group and module.
+    filtered: BTreeSet<(usize, usize)>,
 }
+
+/// How many items a list names before it only counts them.
+const NAMED: usize = 20;
 
 impl<'a> Why<'a> {
     pub fn new(build: &'a TreeBuild, list: &'a ChunkList, reading: &'a HostReading) -> Self {
@@ -23,7 +28,8 @@ impl<'a> Why<'a> {
             _ => None,
         };
         let turns = reading.story.turns.iter().enumerate().filter_map(made).collect();
-        Self { build, list, reading, turns }
+        let filtered = reading.story.filtered.iter().copied().collect();
+        Self { build, list, reading, turns, filtered }
     }
 
     /// How a chunk's item came to be what it is.
@@ -66,7 +72,7 @@ impl<'a> Why<'a> {
         let name = self.list.chunks.iter().find(|one| one.chunk == chunk.number);
         let answer = self.build.numbered.build.answers[chunk.group][module.load];
         let named = name.is_some_and(|one| answer == one.name + 2);
-        let filtered = self.reading.story.filtered.contains(&(chunk.group, module.load));
+        let filtered = self.filtered.contains(&(chunk.group, module.load));
         if named && !filtered { "matched" } else { "a dependency of a matched one" }
     }
 
@@ -75,15 +81,15 @@ impl<'a> Why<'a> {
         if !module.states.is_empty() {
             return format!("{}, so it takes no part", module.states.join(" and "));
         }
-        let story = &self.reading.story;
-        let item = |place: &usize| story.items[*place].modules.contains(&module.load);
-        let items = (0..story.items.len()).filter(item);
-        let labels: Vec<String> = items.map(|place| self.title(&story.items[place])).collect();
-        let filtered = story.filtered.iter().filter(|(_, load)| *load == module.load);
-        let filtered: Vec<&str> = filtered.map(|(group, _)| self.label(*group)).collect();
-        match (labels.is_empty(), filtered.is_empty()) {
-            (false, _) => format!("dropped with {}", labels.join(", ")),
-            (true, false) => format!("filtered out by {}", filtered.join(", ")),
+        let items = self.reading.story.items.iter();
+        let dropped = items.filter(|item| item.modules.binary_search(&module.load).is_ok());
+        let dropped: Vec<String> = dropped.map(|item| self.title(item)).collect();
+        let groups = 0..self.build.tree.groups.len();
+        let filtered = groups.filter(|group| self.filtered.contains(&(*group, module.load)));
+        let filtered: Vec<String> = filtered.map(|group| self.label(group).to_string()).collect();
+        match (dropped.is_empty(), filtered.is_empty()) {
+            (false, _) => format!("dropped with {}", shortened(dropped).join(", ")),
+            (true, false) => format!("filtered out by {}", shortened(filtered).join(", ")),
             (true, true) => "no group names it".into(),
         }
     }
@@ -124,7 +130,7 @@ impl<'a> Why<'a> {
     /// The items that came to nothing from one turn to another.
     fn passed_over(&self, start: usize, end: usize) -> Vec<String> {
         let turns = self.reading.story.turns[start..end].iter();
-        turns.filter_map(|turn| self.came_to_nothing(turn)).collect()
+        shortened(turns.filter_map(|turn| self.came_to_nothing(turn)).collect())
     }
 
     fn came_to_nothing(&self, turn: &Turn) -> Option<String> {
@@ -155,6 +161,14 @@ impl<'a> Why<'a> {
     }
 }
 
+/// The first of these, and how many more there are.
+fn shortened(mut lines: Vec<String>) -> Vec<String> {
+    let more = lines.len().saturating_sub(NAMED);
+    lines.truncate(NAMED);
+    lines.extend((more > 0).then(|| format!("and {more} more")));
+    lines
+}
+
 /// A turn that was a cut.
 fn cut(turn: &Turn) -> Option<String> {
     let Fate::Cut { left, right } = turn.fate else { return None };
@@ -171,4 +185,17 @@ pub fn verdict(reading: &HostReading, shown: &Shown) -> String {
     "THE HOST'S OWN READING COMES TO ANOTHER LIST. The list shown is the library's, which is \
      proved; what is said of dropped, emptied and cut items may be wrong."
         .into()
+}
+
+#[cfg(test)]
+mod tests {
+    use super::{NAMED, shortened};
+
+    #[test]
+    fn a_long_list_is_counted() {
+        let lines = |count: usize| (0..count).map(|line| line.to_string()).collect::<Vec<_>>();
+        assert_eq!(shortened(lines(NAMED)), lines(NAMED));
+        let long = shortened(lines(NAMED + 5));
+        assert_eq!((long.len(), long[NAMED].as_str()), (NAMED + 1, "and 5 more"));
+    }
 }
