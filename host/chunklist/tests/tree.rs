@@ -4,6 +4,7 @@ mod common;
 
 use std::fmt::Write;
 
+use chunklist::tree::{Shown, TreeBuild, picture};
 use common::{Ran, run, samples::path};
 use text::{Answer, Build, ChunkList, Question, read_cases, read_replies};
 
@@ -117,6 +118,19 @@ fn a_chunk_as_large_as_the_window_is_not_above_it() {
     let last = "\n>> ABOVE the window: 1 of 1 chunk, chunk 0 by 1 bytes\n";
     assert!(above.answers.ends_with(last), "{}", above.answers);
     assert!(above.answers.contains("\n>>     0  g"), "{}", above.answers);
+}
+
+#[test]
+fn only_what_is_above_has_a_colour() {
+    let tree = "module a 9\nmodule b 10\ngroup g name {1}\n";
+    let build = TreeBuild::read(tree, "", None).expect("a tree");
+    let list = build.ask().outcome.expect("the library accepts it");
+    let shown = Shown::new(&build, &list);
+    let (plain, coloured) = (picture(&shown, 9, false), picture(&shown, 9, true));
+    let lines: Vec<&str> = coloured.lines().filter(|line| line.contains('\x1b')).collect();
+    assert_eq!(lines.len(), 1, "{coloured}");
+    assert!(lines[0].starts_with("\x1b[1;31m>>     1  g") && lines[0].ends_with("\x1b[0m"));
+    assert_eq!(coloured.replace("\x1b[1;31m", "").replace("\x1b[0m", ""), plain);
 }
 
 #[test]

@@ -138,12 +138,20 @@ fn names_of_what_is_not_there() {
 }
 
 #[test]
+fn a_group_asks_for_a_tag_that_is_there() {
+    assert_eq!(
+        message("module a 1 tags late\ngroup g\n tags late\ngroup h tags laet\n"),
+        "line 4: there is no module with the tag `laet`; is `late` meant?"
+    );
+}
+
+#[test]
 fn there_are_as_many_tags_as_bits() {
     let tags: String = (0..64).map(|tag| format!(" t{tag}")).collect();
     let good = format!("{GOOD}module c 1 tags{tags}\n");
     assert!(read_tree(&good).and_then(|tree| tree.numbered(None)).is_ok());
     assert_eq!(
-        message(&format!("{good}group g tags t1 more\n")),
+        message(&format!("{good}module d 1 tags t1 more\n")),
         "line 6: at most 64 different tags are expected; this is one more"
     );
 }

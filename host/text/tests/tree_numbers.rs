@@ -101,6 +101,12 @@ fn words_in_quotes_are_no_keywords() {
 }
 
 #[test]
+fn lines_may_end_as_on_other_systems() {
+    let plain = numbered("tree t\nmodule a 1\ngroup g\n", None);
+    assert_eq!(numbered("\u{feff}tree t\r\nmodule a 1\r\ngroup g\r\n", None), plain);
+}
+
+#[test]
 fn a_shared_id_names_the_module_that_takes_part() {
     let build = numbered("module a 1 external\nmodule a 2\nmodule b 3 needs a\n", None).build;
     assert_eq!(chain(&build, 2), [1]);

@@ -123,7 +123,8 @@ impl<'a> Why<'a> {
         let oversized =
             oversized.map(|max_size| format!("It is above max_size {max_size}; {reason}."));
         let aware = group.entries_aware == Some(true);
-        let aware = aware.then(|| "Its entries are those of its subgroup before anything left it.");
+        let aware =
+            aware.then_some("Its entries are those of its subgroup before anything left it.");
         oversized.into_iter().chain(aware.map(String::from)).collect()
     }
 

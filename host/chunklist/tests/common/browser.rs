@@ -2,6 +2,7 @@
 
 use std::{
     env, fs,
+    io::{self, Write},
     path::{Path, PathBuf},
     process::{Command, Stdio},
 };
@@ -15,7 +16,8 @@ pub fn browser() -> Option<PathBuf> {
     let paths = NAMES.iter().flat_map(|name| folders.iter().map(move |folder| folder.join(name)));
     let found = paths.into_iter().find(|path| path.is_file());
     if found.is_none() {
-        println!("SKIPPED: no browser is installed, one of {NAMES:?}");
+        // Not `eprintln!`, which the test runner would keep to itself.
+        let _ = writeln!(io::stderr(), "SKIPPED: no browser is installed, one of {NAMES:?}");
     }
     found
 }

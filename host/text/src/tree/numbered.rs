@@ -37,7 +37,7 @@ impl Tree {
     ///
     /// # Errors
     ///
-    /// A word names a module or an entry that isn't there, or there are more tags than bits.
+    /// A word names a module, an entry or a tag that isn't there, or there are more tags than bits.
     pub fn numbered(&self, seed: Option<u32>) -> Result<Numbered, TextError> {
         let resolved = self.resolved()?;
         let count = u32::try_from(self.modules.len()).unwrap_or(u32::MAX);
@@ -90,20 +90,22 @@ impl Tree {
         ids
     }
 
-    /// All tags, of modules and groups.
+    /// All tags of modules. A group that asks for another one could take nothing.
     fn tags(&self) -> Result<Vec<String>, TextError> {
-        let of_modules = self.modules.iter().flat_map(|module| &module.tags);
-        let of_groups = self.groups.iter().flat_map(|group| &group.tags);
         let mut tags = BTreeSet::new();
-        for tag in of_modules.chain(of_groups) {
-            tags.insert(tag.text.clone());
+        for tag in self.modules.iter().flat_map(|module| &module.tags) {
+            tags.insert(tag.text.as_str());
             if tags.len() > TAGS {
                 let message =
                     format!("at most {TAGS} different tags are expected; this is one more");
                 return Err(TextError { line: tag.line, message });
             }
         }
-        Ok(tags.into_iter().collect())
+        let mut asked = self.groups.iter().flat_map(|group| &group.tags);
+        match asked.find(|tag| !tags.contains(tag.text.as_str())) {
+            Some(tag) => Err(missing("module with the tag", tag, tags)),
+            None => Ok(tags.into_iter().map(String::from).collect()),
+        }
     }
 
     /// The names in ascending byte order, and each group's answers.

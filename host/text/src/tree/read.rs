@@ -55,6 +55,8 @@ impl Said {
 pub fn read_tree(text: &str) -> Result<Tree, TextError> {
     let (said, said_of_owner) = Default::default();
     let mut reader = Reader { tree: Tree::default(), owner: Owner::Nothing, said, said_of_owner };
+    // Some editors put a byte order mark before the text.
+    let text = text.strip_prefix('\u{feff}').unwrap_or(text);
     for (number, line) in text.lines().enumerate() {
         reader.line(&mut LineWords::new(number + 1, line)?)?;
     }
