@@ -88,6 +88,34 @@ fn filters_stand_in_the_address() {
     assert!(both[0] > 0 && both[0] < shown.chunks.len() as u64, "{both:?}");
 }
 
+/// What a person does: chooses a group, then an entry too, then takes both back.
+#[test]
+fn filters_can_be_changed_and_taken_back() {
+    let Some(browser) = browser() else { return };
+    let (build, list) = sample();
+    let shown = Shown::new(&build, &list);
+    let page = written("changed", &[&path("widgets.tree"), "--window", "64k"], "");
+    let html = fs::read_to_string(&page).expect("a page");
+    let choose = |id: &str, number: u32| {
+        format!(
+            "document.getElementById('{id}').value = '{number}';\n\
+             document.getElementById('{id}').dispatchEvent(new Event('change', {{bubbles: true}}));\n\
+             document.body.dataset.address = location.hash;\n"
+        )
+    };
+    let after = |steps: &str| {
+        let acted = html.replace("</body>", &format!("<script>\n{steps}</script>\n</body>"));
+        fs::write(&page, acted).expect("the page can be written");
+        opened(&browser, &page, "")
+    };
+    let both = choose("group", 0) + &choose("entry", 1);
+    let dom = after(&both);
+    assert_eq!(counted(&dom), by_list(&shown, |one| one.group == 0 && one.entries.contains(&1)));
+    assert!(dom.contains("data-address=\"#group=0&amp;entry=1\""), "{dom}");
+    let dom = after(&(both + "document.querySelector('[type=reset]').click();\n"));
+    assert_eq!(counted(&dom), by_list(&shown, |_| true));
+}
+
 #[test]
 fn ids_cannot_become_a_part_of_the_page() {
     let Some(browser) = browser() else { return };

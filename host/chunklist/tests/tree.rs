@@ -141,6 +141,8 @@ fn an_error_has_its_source_and_line() {
          is expected, not `need`; is `needs` meant?"
     );
     assert_eq!(message("module a 1\n\n needs c\n"), "line 3: there is no module with the id `c`");
+    let Ran { messages, .. } = run(&["--tree"], b"module a 1\nmodule \xff 1\n");
+    assert_eq!(messages, "chunklist: standard input: line 2: the text isn't UTF-8\n");
     let Ran { messages, status, .. } = run(&["no-such.tree"], b"");
     assert!(messages.starts_with("chunklist: no-such.tree: "), "{messages}");
     assert_eq!(status, Some(1));

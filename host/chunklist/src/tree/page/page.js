@@ -42,20 +42,23 @@ function show() {
 function toAddress() {
   const said = new URLSearchParams();
   for (const control of controls) {
-    if (control.type === 'checkbox' ? control.checked : !isAll(control)) said.set(control.id, control.type === 'checkbox' ? '1' : control.value);
+    if (control.type === 'checkbox') {
+      if (control.checked) said.set(control.id, '1');
+    } else if (!isAll(control)) said.set(control.id, control.value);
   }
-  history.replaceState(null, '', said.size ? `#${said}` : location.pathname + location.search);
+  history.replaceState(null, '', `#${said}`);
+}
+
+function choose(select, value) {
+  const found = [...select.options].findIndex((option) => !option.hasAttribute('data-all') && option.value === value);
+  select.selectedIndex = Math.max(found, 0);
 }
 
 function fromAddress() {
   const said = new URLSearchParams(location.hash.slice(1));
   for (const control of controls) {
     if (control.type === 'checkbox') control.checked = said.has(control.id);
-    else {
-      const options = [...control.options];
-      const place = options.findIndex((option) => said.has(control.id) && !option.hasAttribute('data-all') && option.value === said.get(control.id));
-      control.selectedIndex = Math.max(place, 0);
-    }
+    else choose(control, said.get(control.id));
   }
   show();
 }
