@@ -20,6 +20,12 @@ impl Source {
         }
     }
 
+    /// The name of its file without folders and ending, if it has one.
+    pub fn stem(&self) -> String {
+        let stem = self.0.as_ref().and_then(|path| path.file_stem());
+        stem.map_or(String::new(), |stem| stem.to_string_lossy().into_owned())
+    }
+
     /// The whole text; the error is a message.
     pub fn text(&self) -> Result<Vec<u8>, String> {
         let bytes = match &self.0 {

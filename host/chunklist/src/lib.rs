@@ -16,6 +16,7 @@ mod answer_all;
 mod area;
 mod ask;
 mod room;
+pub mod tree;
 
 pub use answer_all::{Messages, answer_all};
 pub use area::{Lent, Pattern};

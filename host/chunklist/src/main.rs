@@ -1,8 +1,10 @@
-//! The program: answers the calls of a file or of standard input.
+//! The program: answers the calls of a file or of standard input, or shows the list of a tree.
 #![forbid(unsafe_code)]
 
 mod arguments;
 mod input;
+mod progress;
+mod show_tree;
 
 use std::{
     env,
@@ -12,6 +14,7 @@ use std::{
 
 use arguments::Request;
 use input::Source;
+use progress::Progress;
 
 /// What `--help` prints.
 const HELP: &str = include_str!("../help.txt");
@@ -23,6 +26,7 @@ fn main() -> ExitCode {
     match arguments::request(env::args_os().skip(1)) {
         Ok(Request::Help) => finished(io::stdout().write_all(HELP.as_bytes()).map(|()| true)),
         Ok(Request::Answer(file)) => answer(&Source(file)),
+        Ok(Request::Tree(request)) => show_tree::show_tree(&request),
         Err(message) => {
             say(&format!("{message}; --help says what there is"));
             ExitCode::from(BAD_USAGE)
@@ -39,6 +43,7 @@ fn answer(source: &Source) -> ExitCode {
             return ExitCode::FAILURE;
         }
     };
+    let _progress = Progress::of(format!("answering the calls of {}", source.name()));
     let mut answers = BufWriter::new(io::stdout().lock());
     let messages = chunklist::answer_all(&text, &mut answers);
     let written = messages.and_then(|messages| answers.flush().map(|()| messages));

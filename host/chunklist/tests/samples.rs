@@ -2,30 +2,41 @@
 
 mod common;
 
-use std::{fs, path::PathBuf};
+use common::{
+    Ran, run,
+    samples::{content, path},
+};
 
-use common::{Ran, run};
-
-/// The path of a sample file of the repository.
-fn sample(name: &str) -> PathBuf {
-    PathBuf::from(env!("CARGO_MANIFEST_DIR")).join("../../samples").join(name)
-}
-
-/// What the leaves have to answer.
-fn expected() -> Ran {
-    let answers = fs::read_to_string(sample("leaves.expected")).expect("the answers can be read");
-    Ran { answers, messages: String::new(), status: Some(0) }
+/// What a run has to come to.
+fn expected(name: &str, status: i32) -> Ran {
+    Ran { answers: content(name), messages: String::new(), status: Some(status) }
 }
 
 #[test]
 fn leaves_from_a_file() {
-    let file = sample("leaves.txt");
-    assert_eq!(run(&[file.to_str().expect("a path of UTF-8")], b""), expected());
+    assert_eq!(run(&[&path("leaves.txt")], b""), expected("leaves.expected", 0));
 }
 
 #[test]
 fn leaves_from_standard_input() {
-    let cases = fs::read(sample("leaves.txt")).expect("the sample can be read");
-    assert_eq!(run(&[], &cases), expected());
-    assert_eq!(run(&["-"], &cases), expected());
+    let cases = content("leaves.txt").into_bytes();
+    assert_eq!(run(&[], &cases), expected("leaves.expected", 0));
+    assert_eq!(run(&["-"], &cases), expected("leaves.expected", 0));
+}
+
+#[test]
+fn whole_builds() {
+    assert_eq!(run(&[&path("chunks.txt")], b""), expected("chunks.expected", 0));
+}
+
+#[test]
+fn a_tree_as_a_list() {
+    assert_eq!(run(&[&path("widgets.tree")], b""), expected("widgets.expected", 0));
+}
+
+/// One chunk is above the window, which has a status of its own.
+#[test]
+fn a_tree_against_a_window() {
+    let ran = run(&[&path("widgets.tree"), "--window", "64k"], b"");
+    assert_eq!(ran, expected("widgets.window.expected", 3));
 }

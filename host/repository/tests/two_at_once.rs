@@ -51,7 +51,7 @@ fn without_flock() -> ScratchFolder {
     for source in ["crates.txt", "crates/a/source", "host/Cargo.toml"] {
         folder.write(source, "");
     }
-    for package in ["text", "gentropi", "chunklist"] {
+    for package in ["text", "reading", "gentropi", "chunklist"] {
         folder.write(&format!("host/{package}/source"), "");
     }
     folder.link_commands(&COMMANDS);

@@ -1,9 +1,11 @@
 //! Entries-aware builds without dependencies.
 
-use text::{Build, Group};
+use text::{
+    Build, Group,
+    drawn::{drawn, word},
+};
 
 use super::{flat, tree};
-use crate::drawn::{drawn, word};
 
 /// Each module has entry bits of its own, and nothing joins.
 pub fn all_different(count: u32) -> Build {

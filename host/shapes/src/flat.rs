@@ -1,9 +1,11 @@
 //! Builds without dependencies.
 
-use text::{Build, Group, Module, Options};
+use text::{
+    Build, Group, Module, Options,
+    drawn::{drawn, shuffled},
+};
 
 use super::tree::{self, Area};
-use crate::drawn::{drawn, shuffled};
 
 /// Three groups: packages under 16 names, the user interface, and whatever two entries share. The
 /// larger sets are cut.

@@ -1,9 +1,11 @@
 //! Builds with dependencies, in layers.
 
-use text::{Build, Group, Record};
+use text::{
+    Build, Group, Record,
+    drawn::{drawn, shuffled},
+};
 
 use super::{flat, tree};
-use crate::drawn::{drawn, shuffled};
 
 /// How many layers there are; a module's number less a multiple of this is its layer.
 const LAYERS: u32 = 24;

@@ -2,7 +2,6 @@
 #![forbid(unsafe_code)]
 
 mod aware;
-pub mod drawn;
 mod flat;
 mod graph;
 mod limits;

@@ -1,9 +1,8 @@
 //! Builds at the limits of document 01.
 
-use text::{Build, Group, Options, Record};
+use text::{Build, Group, Options, Record, drawn::drawn};
 
 use super::{aware, flat, tree};
-use crate::drawn::drawn;
 
 /// The greatest count of dependency records.
 const RECORDS: u32 = 65_535;

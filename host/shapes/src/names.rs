@@ -1,9 +1,8 @@
 //! Builds with a name for each module.
 
-use text::Build;
+use text::{Build, drawn::shuffled};
 
 use super::{flat, graph};
-use crate::drawn::shuffled;
 
 /// Sets of one module.
 pub fn flat(count: u32) -> Build {

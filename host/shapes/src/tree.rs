@@ -1,8 +1,9 @@
 //! Modules in folders of 25, without dependencies.
 
-use text::Module;
-
-use crate::drawn::{drawn, shuffled};
+use text::{
+    Module,
+    drawn::{drawn, shuffled},
+};
 
 /// How many modules a folder has.
 const FOLDER: u32 = 25;

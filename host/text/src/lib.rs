@@ -13,6 +13,7 @@
 
 pub mod case;
 pub mod damage;
+pub mod drawn;
 mod lines;
 mod quote;
 mod read_build;
@@ -20,6 +21,7 @@ mod read_leaf;
 mod read_reply;
 pub mod reply;
 pub mod tables;
+pub mod tree;
 mod words;
 mod write_case;
 mod write_reply;
@@ -29,6 +31,7 @@ use std::fmt;
 pub use case::{Build, Call, Capture, Case, Chunks, Cut, Filter, Group, Merge, Module, Options};
 pub use case::{Question, Record, Sim, Subgroup};
 pub use damage::{Count, Damage, Table};
+pub use lines::whole_text;
 pub use quote::Quoted;
 pub use reply::{Answer, Chunk, ChunkList, CutAnswer, MergedSubgroup, Reply};
 

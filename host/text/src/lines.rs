@@ -4,6 +4,22 @@ use std::slice::SplitInclusive;
 
 use crate::{TextError, words::Words};
 
+/// A text that is UTF-8 from its start to its end.
+///
+/// # Errors
+///
+/// The first line that isn't.
+pub fn whole_text(bytes: &[u8]) -> Result<&str, TextError> {
+    str::from_utf8(bytes).map_err(|error| {
+        let before = &bytes[..error.valid_up_to()];
+        let line = 1 + before.iter().filter(|byte| **byte == b'\n').count();
+        TextError { line, message: NOT_UTF8.into() }
+    })
+}
+
+/// What is wrong with a line that isn't UTF-8.
+const NOT_UTF8: &str = "the text isn't UTF-8";
+
 /// Whether a byte ends a line.
 type IsEnd = fn(&u8) -> bool;
 
@@ -64,7 +80,7 @@ impl<'a> Lines<'a> {
         self.last += 1;
         match str::from_utf8(line) {
             Ok(line) => Ok(Some(Words::new(self.last, line))),
-            Err(_) => Err(self.error("the text isn't UTF-8".into())),
+            Err(_) => Err(self.error(NOT_UTF8.into())),
         }
     }
 }

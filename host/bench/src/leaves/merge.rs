@@ -10,7 +10,7 @@ use crate::{
     case::{Agreement, Case, Micros},
     pass,
 };
-use shapes::drawn::{drawn, word};
+use text::drawn::{drawn, word};
 
 struct MergeCase {
     of_crate: TimedMerge,

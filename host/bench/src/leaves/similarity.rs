@@ -10,7 +10,7 @@ use crate::{
     case::{Agreement, Case, Micros},
     pass,
 };
-use shapes::drawn::drawn;
+use text::drawn::drawn;
 
 /// How many calls are timed at once.
 const TIMES: u32 = 1_000;

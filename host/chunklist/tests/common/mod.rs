@@ -1,7 +1,8 @@
 //! Runs the program.
+#![allow(dead_code, reason = "each test uses a part of it")]
 
-// Not every test file needs all of it.
-#![allow(dead_code)]
+pub mod browser;
+pub mod samples;
 
 use std::{
     io::Write,

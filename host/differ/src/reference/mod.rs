@@ -1,54 +1,12 @@
-//! An independent plain reading of document 01: the refusals by its tables, and the results.
-//!
-//! It is written from the paper and not from the crate, for small inputs and without any care
-//! for speed, so that it shows where the paper and the crate disagree.
+//! The reading of document 01, with what it says of the lent areas.
 
 pub mod areas;
-pub mod capture;
-pub mod chunks;
-pub mod cut;
-pub mod fault_list;
-pub mod filter;
-pub mod merge;
-pub mod refusals;
-pub mod rules;
-pub mod similarity;
-pub mod trace;
 
-use text::{Answer, ChunkList, Chunks, CutAnswer, Question, tables};
+pub use reading::*;
+use text::{ChunkList, Chunks, tables};
 
 use areas::Areas;
-use rules::{Rules, SOUND};
-
-/// The answer, or the number of the refusal.
-pub fn answer(question: &Question) -> Result<Answer, u32> {
-    match question {
-        Question::Sim(sim) => {
-            refuse(refusals::similarity(&sim.left, &sim.right))?;
-            Ok(Answer::Sim(similarity::similarity(&sim.left, &sim.right)))
-        }
-        Question::Filter(filter) => {
-            refuse(refusals::filter(filter))?;
-            Ok(Answer::Filter(filter::passes(filter, SOUND)))
-        }
-        Question::Cut(cut) => {
-            let tables = tables::of_cut(cut);
-            refuse(refusals::cut(&tables))?;
-            Ok(Answer::Cut(cut_answer(&tables)))
-        }
-        Question::Capture(capture) => {
-            let tables = tables::of_capture(capture);
-            refuse(refusals::capture(&tables))?;
-            Ok(Answer::Capture(capture_answer(&tables)))
-        }
-        Question::Merge(merge) => {
-            let tables = tables::of_merge(merge);
-            refuse(refusals::merge(&tables))?;
-            Ok(Answer::Merge(merge_answer(&tables)))
-        }
-        Question::Chunks(chunks) => outcome(&tables::of_chunks(chunks), SOUND).map(Answer::Chunks),
-    }
-}
+use rules::Rules;
 
 /// What comes of a whole build: the chunk list or the number of the refusal, and the lent areas.
 #[derive(Debug, Clone, PartialEq)]
@@ -63,54 +21,4 @@ pub fn build(chunks: &Chunks, rules: Rules) -> BuildResult {
     let outcome = outcome(&tables, rules);
     let areas = areas::after(&tables, outcome.as_ref().map_err(|number| *number), rules);
     BuildResult { outcome, areas }
-}
-
-/// The chunk list of a build by these rules, or the number of the refusal.
-fn outcome(tables: &tables::BuildTables, rules: Rules) -> Result<ChunkList, u32> {
-    refuse(refusals::chunks(tables, rules))?;
-    Ok(chunks::chunk_list_by(rules, tables).0)
-}
-
-/// The refusal as an error.
-fn refuse(number: Option<u32>) -> Result<(), u32> {
-    number.map_or(Ok(()), Err)
-}
-
-fn cut_answer(tables: &tables::CutTables) -> Option<CutAnswer> {
-    let ids: Vec<&[u8]> =
-        (0..tables.sizes.len()).map(|k| id(&tables.ids, &tables.offsets, k)).collect();
-    let (index, left, right) = cut::cut(&ids, &tables.sizes, tables.minimum, tables.maximum)?;
-    Some(CutAnswer { index: index as u64, left: left as f64, right: right as f64 })
-}
-
-fn capture_answer(tables: &tables::CaptureTables) -> Vec<u8> {
-    let modules = 0..tables.flags.len();
-    let chains: Vec<Vec<usize>> = modules
-        .map(|module| capture::chain(tables.first[module], &tables.dep_module, &tables.dep_next))
-        .collect();
-    let eligible: Vec<bool> = tables.flags.iter().map(|flags| capture::eligible(*flags)).collect();
-    let captured = capture::capture(&eligible, &chains, tables.start as usize, tables.recursive);
-    captured.into_iter().map(u8::from).collect()
-}
-
-fn merge_answer(tables: &tables::MergeTables) -> Vec<text::MergedSubgroup> {
-    let subgroup = |k: usize| merge::Subgroup { size: tables.sizes[k], bits: row(&tables.bits, k) };
-    let merged = merge::merge((0..tables.sizes.len()).map(subgroup).collect(), tables.threshold);
-    let one = |k: usize| match merged.left[k] {
-        Some(merge::Subgroup { size, bits }) => {
-            text::MergedSubgroup { number: merged.number(k), size, bits }
-        }
-        None => text::MergedSubgroup { number: merged.number(k), size: 0, bits: [0; 4] },
-    };
-    (0..tables.sizes.len()).map(one).collect()
-}
-
-/// The id of a module, as a part of the slice.
-pub fn id<'a>(ids: &'a [u8], offsets: &[u32], module: usize) -> &'a [u8] {
-    &ids[offsets[module] as usize..offsets[module + 1] as usize]
-}
-
-/// Four entry words of a table.
-pub fn row(bits: &[u64], k: usize) -> [u64; 4] {
-    [bits[4 * k], bits[4 * k + 1], bits[4 * k + 2], bits[4 * k + 3]]
 }

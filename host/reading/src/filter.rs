@@ -2,7 +2,7 @@
 
 use text::Filter;
 
-use super::rules::{ReadingFault, Rules};
+use crate::rules::{ReadingFault, Rules};
 
 /// Tags contain the mask; size within both module limits, inclusive; share count at least the
 /// minimum.

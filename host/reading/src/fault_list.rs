@@ -2,7 +2,7 @@
 
 use text::{Count, Table};
 
-use super::rules::{Area, Lengths, Level, ReadingFault as F, Setting, Use};
+use crate::rules::{Area, Lengths, Level, ReadingFault as F, Setting, Use};
 
 /// The limits among the options, and the options that are global ones too.
 const LIMITS: [Setting; 4] =

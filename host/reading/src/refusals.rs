@@ -7,7 +7,7 @@ use text::{
     tables::{BuildTables, CaptureTables, CutTables, MergeTables},
 };
 
-use super::{
+use crate::{
     capture::eligible,
     chunks::passes,
     id, row,

@@ -4,13 +4,14 @@ use std::collections::{BTreeMap, BTreeSet, VecDeque};
 
 use text::{Chunk, ChunkList, Filter, tables::BuildTables};
 
-use super::{
+use crate::{
     capture::{capture, chain, eligible},
     cut::cut,
     filter, id,
     merge::{Subgroup, merge_by, union},
     row,
     rules::{Level, ReadingFault, Rules, SOUND, Setting, Use},
+    story::{Fate, Planned, Story, Turn},
     trace::{Event, Trace},
 };
 
@@ -38,6 +39,8 @@ struct Build<'a> {
     eligible: Vec<bool>,
     chains: Vec<Vec<usize>>,
     trace: Trace,
+    /// Kept only where it is asked for: it holds every item's modules.
+    story: Option<Story>,
 }
 
 /// The chunk list of accepted tables, and what happened on the way.
@@ -47,22 +50,40 @@ pub fn chunk_list(tables: &BuildTables) -> (ChunkList, Trace) {
 
 /// The same by other rules.
 pub fn chunk_list_by(rules: Rules, tables: &BuildTables) -> (ChunkList, Trace) {
-    let modules = 0..tables.flags.len();
-    let chain_of = |m: usize| chain(tables.first[m], &tables.dep_module, &tables.dep_next);
-    let mut build = Build {
-        tables,
-        rules,
-        eligible: tables.flags.iter().map(|flags| eligible(*flags)).collect(),
-        chains: modules.map(chain_of).collect(),
-        trace: Trace::default(),
-    };
-    let sets = build.sets();
-    let items = build.work_list(sets);
-    let chunks = build.convert(items);
-    (build.written(chunks), build.trace)
+    let mut build = Build::new(rules, tables);
+    (build.run(), build.trace)
+}
+
+/// The chunk list of accepted tables, and what came of each item.
+pub fn chunk_list_told(tables: &BuildTables) -> (ChunkList, Story) {
+    let mut build = Build { story: Some(Story::default()), ..Build::new(SOUND, tables) };
+    (build.run(), build.story.unwrap_or_default())
+}
+
+impl<'a> Build<'a> {
+    fn new(rules: Rules, tables: &'a BuildTables) -> Self {
+        let modules = 0..tables.flags.len();
+        let chain_of = |m: usize| chain(tables.first[m], &tables.dep_module, &tables.dep_next);
+        Build {
+            tables,
+            rules,
+            eligible: tables.flags.iter().map(|flags| eligible(*flags)).collect(),
+            chains: modules.map(chain_of).collect(),
+            trace: Trace::default(),
+            story: None,
+        }
+    }
 }
 
 impl Build<'_> {
+    /// Steps 1 to 5.
+    fn run(&mut self) -> ChunkList {
+        let sets = self.sets();
+        let items = self.work_list(sets);
+        let chunks = self.convert(items);
+        self.written(chunks)
+    }
+
     /// Step 1: the set of each (group, name).
     fn sets(&mut self) -> BTreeMap<(usize, u32), Modules> {
         let (n, g) = (self.eligible.len(), self.tables.groups.len());
@@ -77,6 +98,7 @@ impl Build<'_> {
                 }
                 if !passes(self.tables, group, module, self.rules) {
                     self.trace.events.push(Event::Filtered);
+                    self.story.iter_mut().for_each(|story| story.filtered.push((group, module)));
                     continue;
                 }
                 if answer >= 2 {
@@ -116,6 +138,9 @@ impl Build<'_> {
         items.sort_by_key(|item| std::cmp::Reverse(self.priority(item.group)));
         for (origin, item) in items.iter_mut().enumerate() {
             item.origin = origin;
+        }
+        if let Some(story) = &mut self.story {
+            story.items = items.iter().map(planned).collect();
         }
         items
     }
@@ -167,19 +192,34 @@ impl Build<'_> {
         while let Some(item) = items.pop_front() {
             if item.modules.is_empty() {
                 self.trace.events.push(Event::Emptied);
+                self.tell(&item, Fate::Emptied);
             } else if self.is_dropped(&item) {
                 self.trace.events.push(Event::Dropped);
+                self.tell(&item, Fate::Dropped);
             } else if let Some((left, right)) = self.pieces(&item) {
+                let [left_size, right_size] = [&left, &right].map(|one| self.total(&one.modules));
+                self.tell(&item, Fate::Cut { left: left_size, right: right_size });
                 items.push_front(left);
                 items.push_front(right);
             } else {
                 for other in &mut items {
                     self.leave(other, &item.modules);
                 }
-                chunks.push(self.chunk(&item, chunks.len()));
+                let chunk = self.chunk(&item, chunks.len());
+                self.tell(&item, Fate::Chunk(chunk.chunk));
+                chunks.push(chunk);
             }
         }
         chunks
+    }
+
+    /// Notes what came of an item, where the story is kept.
+    fn tell(&mut self, item: &Item, fate: Fate) {
+        let size = self.total(&item.modules);
+        if let Some(story) = &mut self.story {
+            let (origin, modules, piece) = (item.origin, item.modules.len(), item.piece);
+            story.turns.push(Turn { origin, size, modules, piece, fate });
+        }
     }
 
     /// Whether an item is strictly below its min_size.
@@ -299,6 +339,12 @@ impl Build<'_> {
         modules.sort_by_key(|module| self.tables.orders[*module]);
         modules
     }
+}
+
+/// An item as it stands in the story.
+fn planned(item: &Item) -> Planned {
+    let modules = item.modules.iter().copied().collect();
+    Planned { group: item.group, name: item.name, modules }
 }
 
 /// The filter, with the limits in force.

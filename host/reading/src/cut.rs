@@ -1,6 +1,6 @@
 //! The cut of a list of modules in two.
 
-use super::similarity::similarity;
+use crate::similarity::similarity;
 
 /// A cut that is allowed, with what decides between cuts.
 #[derive(Debug, Clone, Copy)]

@@ -1,6 +1,6 @@
 //! The merge of small subgroups.
 
-use super::rules::{Rules, SOUND, Use};
+use crate::rules::{Rules, SOUND, Use};
 
 /// A subgroup.
 #[derive(Debug, Clone, Copy)]

@@ -1,0 +1,96 @@
+//! A build that a person wrote: asks the library, and shows the list.
+
+mod as_calls;
+mod list;
+mod options_in_force;
+mod page;
+mod picture;
+mod refused;
+mod shown;
+mod why;
+
+pub use as_calls::as_calls;
+pub use list::list;
+pub use page::page;
+pub use picture::picture;
+pub use refused::refused;
+pub use shown::{Shown, ShownChunk, ShownModule};
+
+use reading::{chunks::chunk_list_told, story::Story};
+use text::{
+    Answer, ChunkList, Chunks, Damage, TextError, tables,
+    tree::{Numbered, Tree, read_tree},
+};
+
+use crate::ask_build;
+
+/// A tree with its numbers.
+#[derive(Debug, Clone)]
+pub struct TreeBuild {
+    /// The title that is written, or the one that its source gives it.
+    pub title: String,
+    /// As it was written.
+    pub tree: Tree,
+    /// What the host makes of it.
+    pub numbered: Numbered,
+}
+
+/// What the library answered to a tree.
+#[derive(Debug, Clone)]
+pub struct TreeAnswer {
+    /// The chunk list, or the number of the refusal.
+    pub outcome: Result<ChunkList, u32>,
+    /// What a lent area shows to be wrong; empty unless the library breaks its contract.
+    pub warnings: Vec<String>,
+}
+
+/// What the host itself reads from document 01; nothing of it is proved.
+#[derive(Debug, Clone)]
+pub struct HostReading {
+    /// What came of each item of the work list.
+    pub story: Story,
+    /// Whether its list is the library's.
+    pub agrees: bool,
+}
+
+impl TreeBuild {
+    /// Reads a tree and numbers what it names; a seed draws the load numbers. Its source gives it a
+    /// title if it has none itself.
+    ///
+    /// # Errors
+    ///
+    /// The first line that can't be read, and what was expected there.
+    pub fn read(text: &str, source: &str, seed: Option<u32>) -> Result<Self, TextError> {
+        let tree = read_tree(text)?;
+        let numbered = tree.numbered(seed)?;
+        let title = tree.title.clone().unwrap_or_else(|| one_word(source));
+        Ok(Self { title, tree, numbered })
+    }
+
+    /// Puts the build to the library, with areas lent that show where it wrote.
+    pub fn ask(&self) -> TreeAnswer {
+        let asked = ask_build(&self.call()).asked;
+        let outcome = asked.outcome.map(|answer| match answer {
+            Answer::Chunks(list) => list,
+            _ => ChunkList { chunks: Vec::new(), chunk_of: Vec::new() },
+        });
+        TreeAnswer { outcome, warnings: asked.warnings }
+    }
+
+    /// The host's own reading of a build that the library accepted with this list.
+    pub fn read_by_host(&self, list: &ChunkList) -> HostReading {
+        let (own, story) = chunk_list_told(&tables::of_chunks(&self.call()));
+        HostReading { story, agrees: own == *list }
+    }
+
+    /// The build as a call of Chunks.
+    fn call(&self) -> Chunks {
+        Chunks { build: self.numbered.build.clone(), damage: Damage::default() }
+    }
+}
+
+/// A title of one word, since it is the tag of a call.
+fn one_word(source: &str) -> String {
+    let words: Vec<&str> = source.split_whitespace().collect();
+    if words.is_empty() { "tree".into() } else { words.join("-") }
+}
