@@ -78,8 +78,8 @@ enum gentropi_answer {
     GENTROPI_FIRST_NAME = 2
 };
 
-/* How much stack a call takes at most, in bytes, whatever it is handed: the frames of the archive's functions are fixed and none
- * calls itself. A test adds them up. */
+/* How much stack a call takes at most, in bytes, whatever it is handed: the frames of the archive's functions are fixed, and the
+ * one that calls itself goes no deeper than an id has bytes. A test adds them up. */
 #define GENTROPI_SIMILARITY_STACK_BYTES ((size_t)4096)
 #define GENTROPI_CUT_STACK_BYTES ((size_t)4096)
 #define GENTROPI_FILTER_STACK_BYTES ((size_t)4096)

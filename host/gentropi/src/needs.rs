@@ -30,7 +30,8 @@ impl Call {
 }
 
 /// How much stack a call takes at most, in bytes, whatever it is handed: the frames of the archive's
-/// functions are fixed and none calls itself. It isn't proved; a test adds the frames up.
+/// functions are fixed, and the one that calls itself goes no deeper than an id has bytes. It isn't
+/// proved; a test adds the frames up.
 ///
 /// ```
 /// use std::thread;

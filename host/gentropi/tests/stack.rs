@@ -11,6 +11,10 @@ use gentropi::needs::{self, Call};
 /// What the C library's functions may take, of which the archive calls two that copy and fill memory.
 const LIBRARY: usize = 1_024;
 
+/// The one function that calls itself, and how deep: with each turn the ids have six bytes more in
+/// common, of at most 1,024, and the last turns find nothing left of them.
+const RECURSIVE: (&str, usize) = ("idsort::rounds::sort_shared", 1_024 / 6 + 3);
+
 /// A function of the archive.
 #[derive(Debug, Default)]
 struct Frame {
@@ -18,6 +22,8 @@ struct Frame {
     bytes: usize,
     /// The functions of the archive that it calls.
     calls: BTreeSet<String>,
+    /// Whether it calls itself, which needs no relocation.
+    recursive: bool,
 }
 
 /// What a tool says of the archive.
@@ -37,8 +43,10 @@ fn taken_from(register: &str, instruction: &str) -> Option<usize> {
 
 /// Adds an instruction to its function. A large frame is taken page by page in a loop, down to an
 /// address that is reckoned first: `in_loop` says that the page of that loop is still to come.
-fn add(frame: &mut Frame, line: &str, in_loop: &mut bool) {
-    if line.contains("\tpush ") {
+fn add(frame: &mut Frame, name: &str, line: &str, in_loop: &mut bool) {
+    if line.contains("\tcall ") && line.ends_with(&format!("<{name}>")) {
+        frame.recursive = true;
+    } else if line.contains("\tpush ") {
         frame.bytes += 8;
     } else if let Some(bytes) = taken_from("%r11", line) {
         frame.bytes += bytes;
@@ -67,19 +75,25 @@ fn frames() -> BTreeMap<String, Frame> {
             (name, in_loop) = (label.1.to_string(), false);
             frames.insert(name.clone(), Frame { bytes: 8, ..Frame::default() });
         } else if let Some(frame) = frames.get_mut(&name) {
-            add(frame, line, &mut in_loop);
+            add(frame, &name, line, &mut in_loop);
         }
     }
     frames
 }
 
-/// How deep a function goes; one that calls itself, through others too, has no depth.
+/// How deep a function goes; one that calls itself through others has no depth.
 fn depth(frames: &BTreeMap<String, Frame>, name: &str, above: &[&str]) -> usize {
     assert!(!above.contains(&name), "{name} calls itself");
     let frame = frames.get(name).unwrap_or_else(|| panic!("{name} is not in the archive"));
     let above: Vec<&str> = above.iter().copied().chain([name]).collect();
     let below = frame.calls.iter().map(|callee| depth(frames, callee, &above)).max();
-    frame.bytes + below.unwrap_or(0)
+    frame.bytes * times(name, frame) + below.unwrap_or(0)
+}
+
+/// How often a function's frame can stand on the stack at once.
+fn times(name: &str, frame: &Frame) -> usize {
+    assert_eq!(frame.recursive, name == RECURSIVE.0, "{name} calls itself, or doesn't any more");
+    if frame.recursive { RECURSIVE.1 } else { 1 }
 }
 
 #[test]
