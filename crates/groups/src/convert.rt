@@ -1,12 +1,15 @@
 // Each group's matched modules are found when its turn comes, and its sets turned into chunks.
 use index::ChunkIdx;
+use names::closed::copy_flags;
 use names::convert_names;
 use options::Settings;
+use sets::gathered::store_places;
 use sets::matched::match_group;
 ghost use mathlib.Core.Path.{_≡_};
 ghost use Prim.Native.Nat.{_*_, _≤_};
 ghost use lib.ListN.{length};
 ghost use Rattle.capture.specs.Followed.{unfollowed};
+ghost use Rattle.names.specs.Closed.{Closed};
 ghost use Rattle.names.specs.Turn.{NamesRoom};
 ghost use Rattle.groups.specs.Turn.{GroupTurning, GroupTurned, GroupsTurning, GroupsTurned};
 
@@ -27,9 +30,11 @@ fn convert_group(
     dependency: &[u32],
     next: &[u32],
     order: &[u32],
+    place: &[u32],
     rank: &[u32],
     number: ChunkIdx,
     at: usize,
+    closed: &mut [u8],
     marks: &mut [u8],
     followed: &mut [u8],
     set: &mut [u32],
@@ -50,7 +55,8 @@ fn convert_group(
           size-of = now «size_of»;
           bits-of = now «bits_of»;
         }) ⌝ }
-    requires { ⌜ NamesRoom n (now flags) (now order) (now marks) (now followed) (now set) (now scratch) ⌝ }
+    requires { ⌜ NamesRoom n (now flags) (now order) (now place) (now marks) (now followed) (now set) (now scratch)
+        × Closed (now flags) (now first) (now dependency) (now next) (now closed) (now «chunk_of») ⌝ }
     ensures { λ r. ⌜ GroupTurned (record {
       bytes = now (bytes .entry);
       offsets = now (offsets .entry);
@@ -80,7 +86,8 @@ fn convert_group(
           bits-of = now («bits_of» .exit);
         }) ⌝ }
     ensures { λ _. ⌜ (length (now (marks .exit)) ≡ length (now (marks .entry))) × (length (now (set .exit)) ≡ length (now (set .entry)))
-        × (length (now (scratch .exit)) ≡ length (now (scratch .entry))) × (now (followed .exit) ≡ unfollowed) ⌝ }
+        × (length (now (scratch .exit)) ≡ length (now (scratch .entry))) × (now (followed .exit) ≡ unfollowed)
+        × Closed (now (flags .entry)) (now (first .entry)) (now (dependency .entry)) (now (next .entry)) (now (closed .exit)) (now («chunk_of» .exit)) ⌝ }
 {
     let mut matched = [0u32; 4096];
     let filter = settings.filter;
@@ -95,6 +102,7 @@ fn convert_group(
         dependency,
         next,
         order,
+        place,
         sizes,
         bits,
         bytes,
@@ -102,6 +110,7 @@ fn convert_group(
         rank,
         number,
         at,
+        closed,
         marks,
         followed,
         set,
@@ -114,7 +123,7 @@ fn convert_group(
     )
 }
 
-// All groups, in the order of their turns.
+// All groups, in the order of their turns. A set that one group closed is passed over by the walks of those after it.
 pub fn convert_groups_to_chunks(
     settings: [Settings; 64],
     turns: &[u32],
@@ -186,6 +195,10 @@ pub fn convert_groups_to_chunks(
         }) ⌝ }
     ensures { λ _. ⌜ (length (now (scratch .exit)) ≡ length (now (scratch .entry))) ⌝ }
 {
+    let mut place = [0u32; 4096];
+    store_places(order, &mut place);
+    let mut closed = [0u8; 4096];
+    copy_flags(flags, &mut closed[..n]);
     let mut marks = [0u8; 4096];
     let mut followed = [0u8; 65536];
     let mut set = [0u32; 4096];
@@ -213,9 +226,11 @@ pub fn convert_groups_to_chunks(
                 dependency,
                 next,
                 order,
+                &place,
                 rank,
                 ChunkIdx(number.0 + made as u32),
                 at + made,
+                &mut closed[..n],
                 &mut marks[..n],
                 &mut followed,
                 &mut set,

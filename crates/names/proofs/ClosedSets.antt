@@ -24,7 +24,7 @@ use Rattle.options.specs.declared.Settings.{Settings}
 use Rattle.running.specs.Fits.{Walking}
 use Rattle.sets.specs.Built.{startsOf, SetBuilt}
 use Rattle.sets.specs.Gathered.{markedIn}
-use Rattle.names.specs.Closed.{closes, leftAt, someLeft, closedAfter, Closed}
+use Rattle.names.specs.Closed.{closes, liveBy, leftAt, someLeft, closedAfter, Closed}
 
 -- ---- eligible or not
 
@@ -76,6 +76,11 @@ module _ (flags first dependency next live chunk-of : List ℕ) (c : Closed flag
     λ r. ⊎-elim (λ q. q) (λ q. absurd (c .taken m (reached-eligible r) q (eqb-true (getD chunk-of m 0) 0 e))) (reached-past r),
     reached-all,
   )
+
+pub closed-as : {flags first dependency next live want chunk-of : List ℕ} → live ≡ want → Closed flags first dependency next want chunk-of
+    → Closed flags first dependency next live chunk-of
+closed-as {flags} {first} {dependency} {next} {chunk-of = chunk-of} e c =
+    subst (λ (l : List ℕ). Closed flags first dependency next l chunk-of) (sym e) c
 
 -- ---- the next set
 
@@ -179,19 +184,32 @@ module _ (flags first dependency next live chunk-of after : List ℕ) (c : Close
 
 -- ---- between two sets
 
--- what walks pass over is closed, and it is nothing if sets of the group can't be closed
+-- what walks of a group pass over is closed, and it is nothing if sets of the group can't be closed
 pub record Passing (settings : Settings) (w : Walking) (live chunk-of : List ℕ) : Type 0 where
   pub closed : Closed (w .flags) (w .first) (w .dependency) (w .next) live chunk-of
   pub whole : closes settings ≡ false → live ≡ w .flags
 
-pub passing-none : {settings : Settings} {w : Walking} {live chunk-of : List ℕ} → live ≡ w .flags → Passing settings w live chunk-of
-passing-none {settings} {w} {live} {chunk-of} e =
-    record {
-      closed =
-          subst (λ (l : List ℕ). Closed (w .flags) (w .first) (w .dependency) (w .next) l chunk-of) (sym e)
-          (closed-none (w .flags) (w .first) (w .dependency) (w .next) chunk-of);
-      whole = λ _. e;
-    }
+-- by the table of closed sets, or by the flag bytes
+module _ (flags closed : List ℕ) where
+  pub live-on : {t : Bool} → t ≡ true → liveBy t flags closed ≡ closed
+  unfolding liveBy
+  live-on e = rw e
+
+  pub live-off : {t : Bool} → t ≡ false → liveBy t flags closed ≡ flags
+  unfolding liveBy
+  live-off e = rw e
+
+  pub live-bytes : (t : Bool) → length closed ≡ length flags → length (liveBy t flags closed) ≡ length flags
+  unfolding liveBy
+  live-bytes true e = e
+  live-bytes false e = refl
+
+pub passing-by : {settings : Settings} {w : Walking} {closed chunk-of : List ℕ} (t : Bool) → t ≡ closes settings
+    → Closed (w .flags) (w .first) (w .dependency) (w .next) closed chunk-of → Passing settings w (liveBy t (w .flags) closed) chunk-of
+unfolding liveBy
+passing-by true by c = record { closed = c; whole = λ off. absurd (false≢true (sym (by ∙ off))) }
+passing-by {w = w} {chunk-of = chunk-of} false by c =
+    record { closed = closed-none (w .flags) (w .first) (w .dependency) (w .next) chunk-of; whole = λ _. refl }
 
 -- sets that can be closed are found along dependencies, and are not divided
 pub closes-recursive : (settings : Settings) → closes settings ≡ true → settings .recursive ≡ true
@@ -202,31 +220,31 @@ pub closes-plain : (settings : Settings) → closes settings ≡ true → settin
 unfolding closes
 closes-plain settings e aware = false≢true (sym (ap not aware) ∙ both (not (settings .«entries_aware»)) (settings .recursive) e .0)
 
-module _ {settings : Settings} {w : Walking} {live before after : List ℕ} (p : Passing settings w live before)
+module _ (settings : Settings) (w : Walking) {closed before after : List ℕ} (t : Bool) (by : t ≡ closes settings)
+    (c : Closed (w .flags) (w .first) (w .dependency) (w .next) closed before)
     (stay : (m : ℕ) → Eligible (w .flags) m → (getD before m 0 ≡ 0 → ⊥) → getD after m 0 ≡ 0 → ⊥)
     (order-all : (m : ℕ) → m < length (w .flags) → Eligible (w .flags) m → List·Memᴰ m (w .order))
     {run : List ℕ} {count : ℕ} {area : List ℕ}
-    (built : SetBuilt (settings .recursive) live (w .first) (w .dependency) (w .next) (w .order) run count area) where
+    (built : SetBuilt (settings .recursive) (liveBy t (w .flags) closed) (w .first) (w .dependency) (w .next) (w .order) run count area) where
   -- the set is closed, if it can be and is in chunks whole
-  pub passing-next : Passing settings w (closedAfter (closes settings) after (take count area) live) after
-  unfolding closedAfter
-  passing-next = go (closes settings) refl (someLeft after (take count area)) refl
+  pub closed-next : Closed (w .flags) (w .first) (w .dependency) (w .next) (closedAfter t after (take count area) closed) after
+  unfolding closedAfter liveBy
+  closed-next = go t refl (someLeft after (take count area)) refl
     where
-      same : Closed (w .flags) (w .first) (w .dependency) (w .next) live after
-      same = closed-stays (w .flags) (w .first) (w .dependency) (w .next) live before after (p .closed) stay
+      same : Closed (w .flags) (w .first) (w .dependency) (w .next) closed after
+      same = closed-stays (w .flags) (w .first) (w .dependency) (w .next) closed before after c stay
 
-      go : (c : Bool) → closes settings ≡ c → (s : Bool) → someLeft after (take count area) ≡ s
-          → Passing settings w (cond (c && not s) (stored 7 (take count area) live) live) after
-      go false e s f = record { closed = same; whole = p .whole }
-      go true e true f = record { closed = same; whole = p .whole }
+      go : (u : Bool) → t ≡ u → (s : Bool) → someLeft after (take count area) ≡ s
+          → Closed (w .flags) (w .first) (w .dependency) (w .next) (cond (u && not s) (stored 7 (take count area) closed) closed) after
+      go false e s f = same
+      go true e true f = same
       go true e false f =
-          let x = built .captured (closes-recursive settings e) in
+          let b : SetBuilt (settings .recursive) closed (w .first) (w .dependency) (w .next) (w .order) run count area =
+          subst (λ (u : Bool). SetBuilt (settings .recursive) (cond u closed (w .flags)) (w .first) (w .dependency) (w .next) (w .order) run count area)
+          e built in
+          let x = b .captured (closes-recursive settings (sym by ∙ e)) in
           let list : take count area ≡ markedIn (x .marks) (w .order) = x .holds .entries in
-          record {
-            closed =
-                subst (λ (l : List ℕ). Closed (w .flags) (w .first) (w .dependency) (w .next) (stored 7 l live) after) (sym list)
-                (closed-more (w .flags) (w .first) (w .dependency) (w .next) live before after (p .closed) stay
-                (λ m. List·Memᴰ m (startsOf (w .order) run)) (x .marks) (w .order) (x .marked) order-all
-                (subst (λ (l : List ℕ). someLeft after l ≡ false) list f));
-            whole = λ off. absurd (false≢true (sym off ∙ e));
-          }
+          subst (λ (l : List ℕ). Closed (w .flags) (w .first) (w .dependency) (w .next) (stored 7 l closed) after) (sym list)
+          (closed-more (w .flags) (w .first) (w .dependency) (w .next) closed before after c stay
+          (λ m. List·Memᴰ m (startsOf (w .order) run)) (x .marks) (w .order) (x .marked) order-all
+          (subst (λ (l : List ℕ). someLeft after l ≡ false) list f))

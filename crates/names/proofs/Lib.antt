@@ -3,5 +3,6 @@ pub mod Matched
 pub mod OneSet
 pub mod ClosedSets
 pub mod Staying
+pub mod OrderOf
 pub mod SetOfRun
 pub mod NameSteps

@@ -1,5 +1,6 @@
 -- The names of a group one after another: what holds between two of them, and what the next one needs.
 use Prim.Native.Nat.{ℕ, _+_, _-_, _≤_, _<_}
+use mathlib.Core.Bool.{Bool}
 use mathlib.Core.List.{List, [], _∷_, _++_, foldl, List·Memᴰ, append-nil, append-assoc}
 use mathlib.Core.Path.{_≡_, sym, ap, _∙_, subst}
 use native.Mathlib.Omega.{arith}
@@ -34,14 +35,15 @@ use Rattle.running.specs.State.{Advance, Begun}
 use Rattle.sets.specs.Built.{SetBuilt}
 use Rattle.sets.specs.Matched.{RunEnd}
 use Rattle.sets.proofs.NamesMatched.{names-matched}
-use Rattle.names.specs.Closed.{closes, closedAfter}
+use Rattle.names.specs.Closed.{closes, liveBy, closedAfter, Closed}
 use Rattle.names.specs.Turn.{SetOffered, SetTaken, GroupFits, NamesTurning, NamesTurned}
 use Rattle.running.proofs.Advancing.{advance-none, advance-same, advance-then, begun-next, begun-number, begun-place}
 use Rattle.names.proofs.Matched.{matched-name}
 use Rattle.running.proofs.ItemTurn.{turn-entries}
-use Rattle.names.proofs.ClosedSets.{Passing, passing-next}
+use Rattle.names.proofs.ClosedSets.{Passing, passing-by, closed-next}
+use Rattle.names.proofs.OrderOf.{module-in}
 use Rattle.names.proofs.Staying.{numbers-stay}
-use Rattle.names.proofs.SetOfRun.{module-in, order-all, run-is, set-stands, set-mem, set-in, places-placed}
+use Rattle.names.proofs.SetOfRun.{order-all, run-is, set-stands, set-mem, set-in, places-placed}
 
 -- all places of a build
 all-placed : (n : ℕ) → Placed n (range 0 n)
@@ -108,10 +110,13 @@ module _ {t : Tables} {w : Walking} {bits : List ℕ} {settings : Settings} {gro
         turn-entries (u .b) t bits (u .fits) (u .start) (number + made) (at + made) now begun-now (range 0 n) (w .order) (all-placed n)
         (pre .fits .walks .order ∙ sym (map-getD-range (placesOf (u .b)) 0))
 
-    module _ {to : ℕ} (e : RunEnd matched from to) {count : ℕ} {live area : List ℕ}
-        (built : SetBuilt (settings .recursive) live (w .first) (w .dependency) (w .next) (w .order)
-        (take (to - from) (drop from matched)) count area)
-        (past : Passing settings w live (now .chunk-of)) where
+    module _ {to : ℕ} (e : RunEnd matched from to) (closing : Bool) (by : closing ≡ closes settings) {closed : List ℕ}
+        (so-far : Closed (w .flags) (w .first) (w .dependency) (w .next) closed (now .chunk-of)) {count : ℕ} {area : List ℕ}
+        (built : SetBuilt (settings .recursive) (liveBy closing (w .flags) closed) (w .first) (w .dependency) (w .next) (w .order)
+        (take (to - from) (drop from matched)) count area) where
+      past : Passing settings w (liveBy closing (w .flags) closed) (now .chunk-of)
+      past = passing-by closing by so-far
+
       abbrev name : ℕ
       name = keyOf (getD matched from 0)
 
@@ -130,7 +135,7 @@ module _ {t : Tables} {w : Walking} {bits : List ℕ} {settings : Settings} {gro
       pub set-flags : HasEntry (w .flags) (take count area)
       set-flags i h =
           let o = mem-getD 0 (set-member i h) in
-          subst (λ (m : ℕ). m < length (w .flags)) (o .2) (module-in (pre .turning .fits .passed) (pre .fits) (o .0) (o .1))
+          subst (λ (m : ℕ). m < length (w .flags)) (o .2) (module-in (pre .turning .fits .passed) (pre .fits .walks) (o .0) (o .1))
 
       pub set-offered : SetOffered t bits (settings .«entries_aware») (number + made) (at + made) now (take count area)
       set-offered =
@@ -169,8 +174,9 @@ module _ {t : Tables} {w : Walking} {bits : List ℕ} {settings : Settings} {gro
             }
 
         -- closed sets stay closed, and the set is closed if it can be
-        pub passing-then : Passing settings w (closedAfter (closes settings) (after .chunk-of) (take count area) live) (after .chunk-of)
-        passing-then = passing-next past stay (λ m h el. in-order m el) built
+        pub closed-then : Closed (w .flags) (w .first) (w .dependency) (w .next) (closedAfter closing (after .chunk-of) (take count area) closed)
+            (after .chunk-of)
+        closed-then = closed-next settings w closing by so-far stay (λ m h el. in-order m el) built
           where
             ok : Passed (pre .turning .b)
             ok = pre .turning .fits .passed

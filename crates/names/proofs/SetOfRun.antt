@@ -1,7 +1,7 @@
 -- The set of one name, from the run of the name among the matched modules of its group.
 use Prim.Native.Nat.{ℕ, _+_, _-_, _≤_, _<_}
 use mathlib.Core.Bool.{Bool, true, false}
-use mathlib.Core.List.{List, List·Memᴰ, Memᴰ·cast, Memᴰ·of-map}
+use mathlib.Core.List.{List, map, List·Memᴰ, Memᴰ·cast, Memᴰ·of-map}
 use mathlib.Core.Path.{_≡_, refl, sym, ap, _∙_, subst, subst₂}
 use native.Mathlib.Omega.{arith}
 use lib.Dec.{eqb}
@@ -14,6 +14,7 @@ use Rattle.lists.proofs.Members.{keep-mem}
 use Rattle.lists.proofs.Packed.{sort-ascends}
 use Rattle.lists.proofs.Position.{mem-getD, getD-mem}
 use Rattle.lists.proofs.Runs.{Ascending, Boundary, Run, run-of, run-keeps}
+use Rattle.lists.proofs.Sort.{Pairs}
 use Rattle.records.specs.Bad.{badRecords}
 use Rattle.capture.specs.Capture.{Eligible}
 use Rattle.capture.specs.Followed.{unfollowed}
@@ -24,24 +25,26 @@ use Rattle.grouping.specs.Tree.{placesOf, treeOf}
 use Rattle.grouping.specs.Sets.{setOf}
 use Rattle.grouping.specs.Conditions.{badDependency}
 use Rattle.grouping_laws.proofs.AtPlaces.{tree-length}
-use Rattle.grouping_laws.proofs.Places.{places-mem, mem-places}
+use Rattle.grouping_laws.proofs.Places.{mem-places}
 use Rattle.grouping_laws.proofs.SetPlaces.{Placed, set-placed}
-use Rattle.settling.specs.Modules.{Passed, moduleAt, modulesAt}
+use Rattle.settling.specs.Modules.{Passed, modulesAt}
 use Rattle.linking.proofs.ChunkModules.{places-distinct}
 use Rattle.linking.proofs.Untaken.{places-count}
 use Rattle.running.specs.Fits.{Walking}
 use Rattle.running.proofs.Tests.{passed-sound}
 use Rattle.items.specs.Turn.{untaken}
 use Rattle.sets.specs.Built.{startAt, SetReady, SetBuilt}
-use Rattle.sets.specs.Gathered.{markedIn, PlacesFree, PlacesAre}
+use Rattle.sets.specs.Gathered.{markedIn, PlacesAre}
 use Rattle.sets.specs.Matched.{keysOf, RunEnd}
 use Rattle.sets.specs.OfBuild.{matchingOf, matchedOf, runOf}
-use Rattle.sets.proofs.FromPassed.{flag-bytes, places-few, record-tables}
+use Rattle.sets.proofs.FromPassed.{flag-bytes, record-tables}
+use Rattle.sets.proofs.NamesMatched.{run-rises}
 use Rattle.sets.proofs.BuiltSets.{set-left, set-built}
 use Rattle.names.specs.Closed.{closes, Closed}
 use Rattle.names.specs.Turn.{Stands, GroupFits}
 use Rattle.names.proofs.ClosedSets.{Passing, eligible-in, left-reached, closes-recursive, closes-plain}
 use Rattle.names.proofs.Matched.{matched-few, matched-place}
+use Rattle.names.proofs.OrderOf.{order-small, module-in}
 
 ascends : (b : Given) (g : ℕ) → Ascending keyOf (matchedOf b g)
 unfolding matchedOf
@@ -73,7 +76,16 @@ module _ {b : Given} {w : Walking} {settings : Settings} {group : ℕ} {matched 
       rw (fits .walks .flags, fits .walks .first, fits .walks .dependency, fits .walks .next)
       (record {
         flag-bytes = refl;
-        records = record { few = omega (arith, r .few); firsts = omega (arith, r .firsts); modules = omega (arith, r .modules); nexts = omega (arith, r .nexts) };
+        records = record {
+          few = omega (arith, r .few);
+          firsts = omega (arith, r .firsts);
+          modules = omega (arith, r .modules);
+          nexts = omega (
+            arith,
+            r
+                .nexts,
+          );
+        };
         good = subst₂ (λ (i j : ℕ). badRecords (s .first) (s .dependency) (s .next) i j ≡ false) n d (ok .records);
       })
 
@@ -82,30 +94,22 @@ module _ {b : Given} {w : Walking} {settings : Settings} {group : ℕ} {matched 
       → WalkTables live (w .first) (w .dependency) (w .next) (length live) (length (w .next) - 1)
   live-tables l = rw l (record { flag-bytes = l; records = walk-tables .records; good = walk-tables .good })
 
-  pub module-in : (i : ℕ) → i < length (w .order) → getD (w .order) i 0 < length (w .flags)
-  module-in = rw (fits .walks .order, fits .walks .flags) (λ i h. omega (arith, places-mem b (moduleAt b i) (getD-mem (placesOf b) i 0 h) .0, flag-bytes b ok))
-
-  order-small : length (w .order) ≤ 4096
-  order-small = omega (arith, places-few b ok, ap length (fits .walks .order))
-
   -- each eligible module has a place
   pub order-all : (m : ℕ) → Eligible (w .flags) m → List·Memᴰ m (w .order)
   order-all =
       rw (fits .walks .order, fits .walks .flags)
       (λ m e. mem-places b m (let l = eligible-in (b .variant .flags) m e in omega (arith, flag-bytes b ok)) e)
 
-  -- and no module two
-  pub places-free : {place : List ℕ} → length (w .flags) ≤ length place → ((m : ℕ) → getD place m 0 < 4096) → PlacesFree (w .order) place
-  places-free h s =
-      record {
-        few = order-small;
-        distinct = rw (fits .walks .order) (places-distinct b (passed-sound b ok));
-        room = λ i l. omega (arith, module-in i l);
-        small = s;
-      }
-
   place-in : (x : ℕ) → List·Memᴰ x matched → itemOf x < length (w .order)
   place-in = rw (fits .matched-are, fits .walks .order) (matched-place b ok group (fits .inside))
+
+  -- the run of a name
+  pub run-is : {from to : ℕ} → Boundary keyOf matched from → RunEnd matched from to → Run keyOf matched 0 (keyOf (getD matched from 0)) from to
+  run-is starts e = run-of keyOf (rw (fits .matched-are) (ascends b group)) starts (e .some) (e .within) (e .same) (e .stop)
+
+  run-all : {name from to : ℕ} → Run keyOf matched 0 name from to → part from to ≡ runOf b group name
+  unfolding runOf
+  run-all {name} run = sym (run-keeps keyOf run) ∙ ap (keep (λ x. eqb (keyOf x) name)) (fits .matched-are)
 
   module _ {from to : ℕ} (some : from < to) (within : to ≤ length matched) where
     run-length : length (part from to) ≡ to - from
@@ -117,45 +121,47 @@ module _ {b : Given} {w : Walking} {settings : Settings} {group : ℕ} {matched 
         subst (λ (x : ℕ). itemOf x < length (w .order)) (sym (getD-take (to - from) (drop from matched) i 0 u ∙ getD-drop from matched i 0))
         (place-in _ (getD-mem matched (from + i) 0 (omega arith)))
 
-    pub set-ready : {recursive : Bool} {live place marks queue followed area : List ℕ} → length live ≡ length (w .flags)
-        → (recursive ≡ true → PlacesAre (w .order) place)
+    pub set-ready : {name : ℕ} {live place marks queue followed area : List ℕ} → Run keyOf matched 0 name from to → length live ≡ length (w .flags)
+        → PlacesAre (w .order) place
         → length (w .flags) ≤ length place → marks ≡ replicate (length (w .flags)) 0 → length (w .flags) ≤ length queue → followed ≡ unfollowed
         → length (w .flags) ≤ length area
-        → SetReady recursive live (w .first) (w .dependency) (w .next) (w .order) place (part from to) marks queue followed area
-    set-ready {live = live} l are p m q f a =
+        → SetReady live (w .first) (w .dependency) (w .next) (w .order) place (part from to) marks queue followed area
+    set-ready {name} {live = live} run l are p m q f a =
         record {
           tables = live-tables l;
           unmarked = m ∙ ap (λ (n : ℕ). replicate n 0) (sym l);
           queue-room = omega (arith, l, q);
           clear = f;
-          few = order-small;
-          modules-in = λ i h. omega (arith, l, module-in i h);
+          few = order-small ok (fits .walks);
+          modules-in = λ i h. omega (arith, l, module-in ok (fits .walks) i h);
           places = are;
           place-room = omega (arith, l, p);
           placed = run-placed;
+          rising = subst (λ (l : List ℕ). Pairs _<_ (map itemOf l)) (sym (run-all run)) (run-rises b ok group (fits .inside) name);
           room = omega (arith, order-few);
-          run-room = omega (arith, run-length, order-few, matched-few b ok group (fits .inside), ap length (fits .matched-are), ap length (fits .walks .order));
+          run-room = omega (
+            arith,
+            run-length,
+            order-few,
+            matched-few b ok group (fits .inside),
+            ap length (fits .matched-are),
+            ap length (fits .walks
+                .order),
+          );
         }
 
   -- ---- what it is
-
-  pub run-is : {from to : ℕ} → Boundary keyOf matched from → RunEnd matched from to → Run keyOf matched 0 (keyOf (getD matched from 0)) from to
-  run-is starts e = run-of keyOf (rw (fits .matched-are) (ascends b group)) starts (e .some) (e .within) (e .same) (e .stop)
 
   pub places-placed : (name : ℕ) → Placed (length (placesOf b)) (setOf settings group (treeOf b) name)
   places-placed name = subst (λ (n : ℕ). Placed n (setOf settings group (treeOf b) name)) (tree-length b) (set-placed settings group (treeOf b) name)
 
   module _ {name from to count : ℕ} {live area : List ℕ} (run : Run keyOf matched 0 name from to)
       (built : SetBuilt (settings .recursive) live (w .first) (w .dependency) (w .next) (w .order) (part from to) count area) where
-    run-all : part from to ≡ runOf b group name
-    unfolding runOf
-    run-all = sym (run-keeps keyOf run) ∙ ap (keep (λ x. eqb (keyOf x) name)) (fits .matched-are)
-
     -- found with the build's flag bytes it is the set
     set-is : live ≡ w .flags → take count area ≡ modulesAt b (setOf settings group (treeOf b) name)
     set-is e =
         rw (fits .settings-are)
-        (set-built b ok group (fits .inside) name run-all
+        (set-built b ok group (fits .inside) name (run-all run)
         (rw (fits .settings-are, e, fits .walks .flags, fits .walks .first, fits .walks .dependency, fits .walks .next, fits .walks .order) at built)
         .entries)
 
@@ -167,7 +173,7 @@ module _ {b : Given} {w : Walking} {settings : Settings} {group : ℕ} {matched 
         let closed : Closed (b .variant .flags) (b .shared .first) (b .shared .dependency) (b .shared .next) live chunk-of =
         rw (fits .walks .flags, fits .walks .first, fits .walks .dependency, fits .walks .next) at c in
         rw (fits .settings-are)
-        (set-left b ok group (fits .inside) name run-all (rw (fits .settings-are) at on) (closed .bytes) (λ m. eqb (getD chunk-of m 0) 0)
+        (set-left b ok group (fits .inside) name (run-all run) (rw (fits .settings-are) at on) (closed .bytes) (λ m. eqb (getD chunk-of m 0) 0)
         (left-reached (b .variant .flags) (b .shared .first) (b .shared .dependency) (b .shared .next) live chunk-of closed)
         (rw (fits .settings-are, fits .walks .first, fits .walks .dependency, fits .walks .next, fits .walks .order) at built))
 

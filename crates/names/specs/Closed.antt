@@ -24,6 +24,10 @@ unfoldable pub someLeft : List ℕ → List ℕ → Bool
 unfolding anyBelow
 someLeft chunk-of set = anyBelow (leftAt chunk-of set) (length set)
 
+-- the flag bytes that the walks of a group go by: a group whose sets can be closed passes over the closed ones
+unfoldable pub liveBy : Bool → List ℕ → List ℕ → List ℕ
+liveBy closing flags closed = cond closing closed flags
+
 -- the flag bytes after a set: if it is in chunks whole, its modules count as assigned
 unfoldable pub closedAfter : Bool → List ℕ → List ℕ → List ℕ → List ℕ
 unfolding stored someLeft

@@ -16,6 +16,7 @@ use Rattle.settling.specs.Settled.{settled}
 use Rattle.settling.specs.Traversal.{namesOf, afterName}
 use Rattle.emitting.specs.Emitted.{Work, HasEntry}
 use Rattle.items.specs.Turn.{Tables, untaken}
+use Rattle.sets.specs.Gathered.{PlacesAre}
 use Rattle.sets.specs.OfBuild.{matchedOf}
 use Rattle.running.specs.Fits.{ItemFits, Walking, WalkFits}
 use Rattle.running.specs.State.{Advance}
@@ -55,10 +56,12 @@ pub record NamesTurning (t : Tables) (w : Walking) (bits : List ℕ) (settings :
   pub turning : Turning t bits number at now
   pub fits : GroupFits (turning .b) w settings group matched
 
--- the work tables are as long as the modules need, and no record is marked as followed
-pub record NamesRoom (n : ℕ) (flags order marks followed set scratch : List ℕ) : Type 0 where
+-- the work tables are as long as the modules need, each module's place is known, and no record is marked as followed
+pub record NamesRoom (n : ℕ) (flags order place marks followed set scratch : List ℕ) : Type 0 where
   pub few : n ≤ 4096
   pub modules : length flags ≡ n
+  pub places : PlacesAre order place
+  pub place-room : n ≤ length place
   pub mark-bytes : length marks ≡ n
   pub set-room : n ≤ length set
   pub scratch-room : 3 * n ≤ length scratch

@@ -1,10 +1,13 @@
-// Closed sets: a set that is in chunks whole is passed over by the walks of later sets of its group.
+// Closed sets: a set that is in chunks whole is passed over by the walks of later sets.
 use capture::store::store_bytes;
 use options::Settings;
+use sets::built::build_set;
 ghost use mathlib.Core.Path.{_≡_};
-ghost use lib.ListN.{length};
+ghost use lib.ListN.{length, replicate};
+ghost use Rattle.capture.specs.Followed.{unfollowed};
 ghost use Rattle.emitting.specs.Emitted.{HasEntry};
-ghost use Rattle.names.specs.Closed.{closes, someLeft, closedAfter};
+ghost use Rattle.sets.specs.Built.{SetReady, SetBuilt};
+ghost use Rattle.names.specs.Closed.{closes, liveBy, someLeft, closedAfter};
 
 // Whether sets of the group can be closed.
 pub fn can_close(settings: Settings) -> bool
@@ -26,6 +29,62 @@ pub fn copy_flags(flags: &[u8], live: &mut [u8])
         live[i] = flags[i];
         i = i + 1;
     }
+}
+
+// The set of one name. A group whose sets can be closed walks past the closed ones, and any other through all eligible modules.
+pub fn build_left(
+    closing: bool,
+    recursive: bool,
+    flags: &[u8],
+    closed: &[u8],
+    first: &[u32],
+    dependency: &[u32],
+    next: &[u32],
+    order: &[u32],
+    place: &[u32],
+    run: &[u32],
+    marks: &mut [u8],
+    queue: &mut [u32],
+    followed: &mut [u8],
+    set: &mut [u32],
+) -> usize
+    requires { ⌜ SetReady (liveBy closing (now flags) (now closed)) (now first) (now dependency) (now next) (now order) (now place) (now run)
+        (now marks) (now queue) (now followed) (now set) ⌝ }
+    ensures { λ r. ⌜ SetBuilt recursive (liveBy closing (now (flags .entry)) (now (closed .entry))) (now (first .entry)) (now (dependency .entry))
+        (now (next .entry)) (now (order .entry)) (now (run .entry)) r (now (set .exit)) ⌝ }
+    ensures { λ _. ⌜ (now (marks .exit) ≡ replicate (length (liveBy closing (now (flags .entry)) (now (closed .entry)))) 0)
+        × (now (followed .exit) ≡ unfollowed) ⌝ }
+{
+    if closing {
+        return build_set(
+            recursive,
+            closed,
+            first,
+            dependency,
+            next,
+            order,
+            place,
+            run,
+            marks,
+            queue,
+            followed,
+            set,
+        );
+    }
+    build_set(
+        recursive,
+        flags,
+        first,
+        dependency,
+        next,
+        order,
+        place,
+        run,
+        marks,
+        queue,
+        followed,
+        set,
+    )
 }
 
 // Whether some module of the set has no chunk.

@@ -1,9 +1,9 @@
 // The sets of one group turned into chunks, name by name.
 pub mod closed;
 
+use crate::closed::build_left;
 use crate::closed::can_close;
 use crate::closed::close_set;
-use crate::closed::copy_flags;
 use bitset::entries::BitSet;
 use capture::clear::clear_bytes;
 use emitting::emit::Head;
@@ -12,14 +12,13 @@ use index::ChunkIdx;
 use items::convert::Limits;
 use items::convert::convert_item_to_chunks;
 use options::Settings;
-use sets::built::build_set;
-use sets::gathered::store_places;
 use sets::matched::run_end;
 ghost use mathlib.Core.Path.{_≡_};
 ghost use Prim.Native.Nat.{_*_, _≤_};
 ghost use lib.ListN.{length};
 ghost use Rattle.capture.specs.Followed.{unfollowed};
 ghost use Rattle.grouping.specs.WorkList.{itemsOfSet};
+ghost use Rattle.names.specs.Closed.{Closed};
 ghost use Rattle.names.specs.Turn.{SetOffered, SetTaken, NamesTurning, NamesRoom, NamesTurned};
 
 // One set turned into chunks: an item, or its subgroups. A set that is one item may lack modules that have a chunk.
@@ -131,7 +130,7 @@ fn convert_set(
 }
 
 // The sets of a group, whose matched modules stand in runs of one name each. The list of a walk stands in the first part of scratch; walks pass over
-// sets that are closed.
+// sets that are closed, of this group and of those before it.
 pub fn convert_names(
     settings: Settings,
     group: u32,
@@ -142,6 +141,7 @@ pub fn convert_names(
     dependency: &[u32],
     next: &[u32],
     order: &[u32],
+    place: &[u32],
     sizes: &[u64],
     bits: &[u64],
     bytes: &[u8],
@@ -149,6 +149,7 @@ pub fn convert_names(
     rank: &[u32],
     number: ChunkIdx,
     at: usize,
+    closed: &mut [u8],
     marks: &mut [u8],
     followed: &mut [u8],
     set: &mut [u32],
@@ -177,7 +178,8 @@ pub fn convert_names(
       size-of = now («size_of»);
       bits-of = now («bits_of»);
     }) ⌝ }
-    requires { ⌜ NamesRoom n (now flags) (now order) (now marks) (now followed) (now set) (now scratch) ⌝ }
+    requires { ⌜ NamesRoom n (now flags) (now order) (now place) (now marks) (now followed) (now set) (now scratch)
+        × Closed (now flags) (now first) (now dependency) (now next) (now closed) (now «chunk_of») ⌝ }
     ensures { λ r. ⌜ NamesTurned (record {
       bytes = now (bytes .entry);
       offsets = now (offsets .entry);
@@ -203,26 +205,25 @@ pub fn convert_names(
       bits-of = now («bits_of» .exit);
     }) ⌝ }
     ensures { λ _. ⌜ (length (now (marks .exit)) ≡ length (now (marks .entry))) × (length (now (set .exit)) ≡ length (now (set .entry)))
-        × (length (now (scratch .exit)) ≡ length (now (scratch .entry))) × (now (followed .exit) ≡ unfollowed) ⌝ }
+        × (length (now (scratch .exit)) ≡ length (now (scratch .entry))) × (now (followed .exit) ≡ unfollowed)
+        × Closed (now (flags .entry)) (now (first .entry)) (now (dependency .entry)) (now (next .entry)) (now (closed .exit)) (now («chunk_of» .exit)) ⌝ }
 {
     clear_bytes(marks);
-    let mut place = [0u32; 4096];
-    store_places(settings.recursive, order, &mut place);
-    let mut live = [0u8; 4096];
-    copy_flags(flags, &mut live[..n]);
     let closing = can_close(settings);
     let mut made = 0;
     let mut from = 0;
     while from < matched.len() {
         let to = run_end(matched, from);
-        let count = build_set(
+        let count = build_left(
+            closing,
             settings.recursive,
-            &live[..n],
+            flags,
+            closed,
             first,
             dependency,
             next,
             order,
-            &place,
+            place,
             &matched[from..to],
             marks,
             &mut scratch[..n],
@@ -250,7 +251,7 @@ pub fn convert_names(
                 size_of,
                 bits_of,
             );
-        close_set(closing, &set[..count], chunk_of, &mut live[..n]);
+        close_set(closing, &set[..count], chunk_of, closed);
         from = to;
     }
     made

@@ -2,9 +2,12 @@
 pub mod Writing
 pub mod Gathering
 pub mod Marking
+pub mod Leaving
 pub mod Placing
+pub mod Counting
 pub mod Starts
 pub mod Building
+pub mod FoundAlone
 pub mod MatchedKeys
 pub mod TakesAt
 pub mod FromPassed

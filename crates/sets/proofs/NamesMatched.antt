@@ -2,7 +2,7 @@
 use Prim.Native.Nat.{ℕ, zero, suc, _<_, suc-le-suc}
 use mathlib.Core.Bool.{Bool, true, false, _&&_, _||_, or-true, false≢true}
 use mathlib.Core.List.{List, [], _∷_, map, map-map, List·Memᴰ, Memᴰ·map, Memᴰ·of-map, Memᴰ·cast}
-use mathlib.Core.Path.{_≡_, refl, sym, ap, ap₂, _∙_}
+use mathlib.Core.Path.{_≡_, refl, sym, ap, ap₂, _∙_, subst}
 use native.Mathlib.Nat.{zero-lt-suc, le-of-suc-le-suc, not-suc-le-zero}
 use native.Mathlib.Omega.{arith}
 use borrow.Author.Tests.{eqb-true, eq-eqb}
@@ -19,6 +19,7 @@ use Rattle.lists.proofs.Elem.{elem-mem, mem-elem}
 use Rattle.lists.proofs.KeepTests.{keep-keep, keep-same}
 use Rattle.lists.proofs.Members.{keep-mem, mem-keep, range-mem, mem-range}
 use Rattle.lists.proofs.Packed.{packed-keys, packed-items}
+use Rattle.lists.proofs.Sort.{Pairs, pairs-kept}
 use Rattle.lists.proofs.Sorted.{sorted-fixed}
 use Rattle.lists.proofs.SortNumbers.{kept-sorted}
 use Rattle.bitset.proofs.Bits.{same-truth}
@@ -111,6 +112,13 @@ module _ (b : Given) (ok : Passed b) (g : ℕ) (h : g < b .variant .g) where
           keep-keep (λ p. eqb (nameAt p) name) takesAt (range 0 (length (placesOf b)))
           ∙ keep-same (λ p. takesAt p && eqb (nameAt p) name) (λ p. takesPart (settingsOf b g) g name (memberAt (treeOf b) p)) (range 0 (length (placesOf b)))
           (λ p m. let r = range-mem 0 (length (placesOf b)) p m in sym (takes-at b g h p (omega arith) name))
+
+  -- they rise
+  pub run-rises : (name : ℕ) → Pairs _<_ (map itemOf (runOf b g name))
+  unfolding takingPlaces
+  run-rises name =
+      subst (Pairs _<_) (sym (run-places name))
+      (pairs-kept _<_ (λ p. takesPart (settingsOf b g) g name (memberAt (treeOf b) p)) 0 (length (placesOf b)) (λ x y l u e f. l))
 
   -- the modules of the run of a name
   pub run-starts : (name : ℕ) → startsOf (placesOf b) (runOf b g name) ≡ modulesAt b (takingPlaces b g name)

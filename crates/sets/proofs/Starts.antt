@@ -1,21 +1,25 @@
 -- Several starts are visited one after another, and a walk from what is marked then reaches just what the starts reach.
 use Prim.Native.Nat.{ℕ, zero, suc, _+_, _≤_, _<_}
+use mathlib.Core.Bool.{Bool, true}
 use mathlib.Core.List.{List, _∷_, _++_, [], foldl, List·Memᴰ}
 use mathlib.Core.Logic.{⊎-elim}
 use mathlib.Core.Path.{_≡_, refl, sym, ap, _∙_, subst}
 use native.Mathlib.Numerals.{add-one}
 use native.Mathlib.Omega.{arith}
+use borrow.Author.Tests.{eqb-true, eq-eqb}
+use lib.Dec.{eqb}
 use lib.ListN.{length, getD, take, replicate}
 use lib.Seq.{take-suc, take-all}
 use Rattle.lists.proofs.Fold.{foldl-append}
 use Rattle.lists.proofs.Position.{mem-getD, take-position}
 use Rattle.capture.specs.Reached.{Reached, start, further, Marks}
 use Rattle.capture.specs.Capture.{Eligible, Names}
-use Rattle.capture.specs.Walk.{Walk, WalkState, visited}
+use Rattle.capture.specs.Walk.{Walk, markedCount, WalkState, visited}
 use Rattle.capture.proofs.Reached.{marks-of}
 use Rattle.capture.proofs.State.{state-none}
 use Rattle.capture.proofs.Visit.{Visited, visit-all}
 use Rattle.sets.specs.Captured.{StartsIn}
+use Rattle.sets.proofs.Counting.{count-both}
 
 module _ (flags starts : List ℕ) (n : ℕ) (w₀ : Walk) (s : WalkState flags n w₀) (inside : StartsIn starts n) (i : ℕ) where
   -- with the first i of them visited
@@ -69,15 +73,38 @@ module _ (flags queue cleared : List ℕ) (n : ℕ) (z : cleared ≡ replicate n
     pub starts-state : WalkState flags n w
     starts-state = after-visits .state
 
+    only-starts : (m : ℕ) → getD (w .marks) m 0 ≡ 1 → List·Memᴰ m starts
+    only-starts m o =
+        let none : getD cleared m 0 ≡ 0 = ap (λ (l : List ℕ). getD l m 0) z ∙ zeros n m in
+        ⊎-elim (λ q. absurd (omega arith)) (λ t. t .0) (after-visits .only m o)
+
     pub starts-captured : (first dependency next : List ℕ) (d : ℕ) {after : List ℕ}
         → Marks (Reached (Eligible flags) (Names first dependency next d) (λ m. getD (w .marks) m 0 ≡ 1)) n after
         → Marks (Reached (Eligible flags) (Names first dependency next d) (λ m. List·Memᴰ m starts)) n after
     starts-captured first dependency next d x = marks-of (λ m. (eligible-starts there, eligible-starts back)) x
       where
         there : (m : ℕ) → getD (w .marks) m 0 ≡ 1 → Eligible flags m → List·Memᴰ m starts
-        there m o el =
-            let none : getD cleared m 0 ≡ 0 = ap (λ (l : List ℕ). getD l m 0) z ∙ zeros n m in
-            ⊎-elim (λ q. absurd (omega arith)) (λ t. t .0) (after-visits .only m o)
+        there m o el = only-starts m o
 
         back : (m : ℕ) → List·Memᴰ m starts → Eligible flags m → getD (w .marks) m 0 ≡ 1
         back m i el = after-visits .all m i el
+
+    -- where the walk put no more on the list, only starts are marked
+    pub starts-alone : (first dependency next : List ℕ) (d : ℕ) {after : Walk} → WalkState flags n after
+        → Marks (Reached (Eligible flags) (Names first dependency next d) (λ m. getD (w .marks) m 0 ≡ 1)) n (after .marks)
+        → w .tail ≡ after .tail → (m : ℕ) → m < n → getD (after .marks) m 0 ≡ 1 → List·Memᴰ m starts
+    unfolding markedCount
+    starts-alone first dependency next d {after} s x e m h o =
+        only-starts m
+        (eqb-true (getD (w .marks) m 0) 1
+        (count-both (marked (w .marks)) (marked (after .marks)) n stay (omega (arith, starts-state .count, s .count)) m h
+        (eq-eqb (getD (after .marks) m 0) 1 o)))
+      where
+        marked : List ℕ → ℕ → Bool
+        marked marks k = eqb (getD marks k 0) 1
+
+        stay : (k : ℕ) → k < n → marked (w .marks) k ≡ true → marked (after .marks) k ≡ true
+        stay k l f =
+            let one = eqb-true (getD (w .marks) k 0) 1 f in
+            eq-eqb (getD (after .marks) k 0) 1
+            (⊎-elim (λ q. q .0) (λ q. absurd (q .1 (start one (starts-state .eligible-ones k l one)))) (x .each k l))

@@ -5,6 +5,7 @@ use mathlib.Core.List.{List, map}
 use mathlib.Core.Path.{_≡_}
 use lib.ListN.{length, getD, replicate}
 use Rattle.lists.specs.Packed.{itemOf}
+use Rattle.lists.proofs.Sort.{Pairs}
 use Rattle.capture.specs.Followed.{unfollowed}
 use Rattle.capture.specs.Walk.{WalkTables}
 use Rattle.sets.specs.Area.{Holds}
@@ -23,17 +24,18 @@ startsOf order run = map (startAt order) run
 abbrev pub Placed : List ℕ → List ℕ → Type 0
 Placed run order = (i : ℕ) → i < length run → itemOf (getD run i 0) < length order
 
--- the tables of a walk, with nothing marked, places for the run, and room for all modules; with recursion on, the place of each module
-pub record SetReady (recursive : Bool) (flags first dependency next order place run marks queue followed area : List ℕ) : Type 0 where
+-- the tables of a walk, with nothing marked, the place of each module, places for the run, in execution order, and room for all modules
+pub record SetReady (flags first dependency next order place run marks queue followed area : List ℕ) : Type 0 where
   pub tables : WalkTables flags first dependency next (length flags) (length next - 1)
   pub unmarked : marks ≡ replicate (length flags) 0
   pub queue-room : length flags ≤ length queue
   pub clear : followed ≡ unfollowed
   pub few : length order ≤ 4096
   pub modules-in : (i : ℕ) → i < length order → getD order i 0 < length flags
-  pub places : recursive ≡ true → PlacesAre order place
+  pub places : PlacesAre order place
   pub place-room : length flags ≤ length place
   pub placed : Placed run order
+  pub rising : Pairs _<_ (map itemOf run)
   pub room : length order ≤ length area
   pub run-room : length run ≤ length area
 

@@ -30,7 +30,8 @@ abbrev pub AllCaptured : List ℕ → List ℕ → List ℕ → List ℕ → Lis
 AllCaptured flags first dependency next starts marks =
     Marks (Reached (Eligible flags) (Names first dependency next (length next - 1)) (λ m. List·Memᴰ m starts)) (length flags) marks
 
--- they are marked, and just these are on the list
-pub record AllFound (flags first dependency next starts : List ℕ) (w : Walk) : Type 0 where
+-- they are marked, and just these are on the list; if it is as long as with the starts alone, only starts are marked
+pub record AllFound (flags first dependency next starts : List ℕ) (started : ℕ) (w : Walk) : Type 0 where
   pub captured : AllCaptured flags first dependency next starts (w .marks)
   pub state : WalkState flags (length flags) w
+  pub alone : started ≡ w .tail → (m : ℕ) → m < length flags → getD (w .marks) m 0 ≡ 1 → List·Memᴰ m starts

@@ -1,9 +1,10 @@
 -- The marked modules in execution order, found by blocks of 64 places.
 use Prim.Native.Nat.{ℕ, _/_, _≤_, _<_}
+use mathlib.Core.Bool.{Bool, true}
 use mathlib.Core.List.{List, List·Memᴰ}
 use mathlib.Core.Path.{_≡_}
 use lib.Dec.{eqb}
-use lib.ListN.{length, getD}
+use lib.ListN.{length, getD, take}
 use Rattle.lists.specs.Keep.{keep}
 use Rattle.lists.proofs.Distinct.{Distinct}
 
@@ -50,3 +51,13 @@ pub record FoundReady (order place list marks area : List ℕ) : Type 0 where
   pub has-mark : (i : ℕ) → i < length order → getD order i 0 < length marks
   pub listed : (i : ℕ) → i < length order → getD marks (getD order i 0) 0 ≡ 1 → List·Memᴰ (getD order i 0) list
   pub room : length order ≤ length area
+
+-- each module of the list has a mark
+abbrev pub HasMark : List ℕ → List ℕ → Type 0
+HasMark marks list = (i : ℕ) → i < length list → getD list i 0 < length marks
+
+-- the first `count` words of the area are modules, and, where a walk found its starts alone, all that is marked is among them, in execution order
+pub record FrontReady (alone : Bool) (count : ℕ) (order marks area : List ℕ) : Type 0 where
+  pub fits : count ≤ length area
+  pub has-mark : HasMark marks (take count area)
+  pub same : alone ≡ true → markedIn marks (take count area) ≡ markedIn marks order

@@ -1,6 +1,6 @@
 // The set of one name: what the modules capture that take part with it, in execution order.
 use crate::captured::capture_all;
-use crate::gathered::gather_set;
+use crate::gathered::gather_found;
 use capture::store::store_bytes;
 ghost use mathlib.Core.Path.{_≡_};
 ghost use lib.ListN.{length, replicate};
@@ -35,7 +35,7 @@ pub fn build_set(
     followed: &mut [u8],
     set: &mut [u32],
 ) -> usize
-    requires { ⌜ SetReady recursive (now flags) (now first) (now dependency) (now next) (now order) (now place) (now run) (now marks) (now queue)
+    requires { ⌜ SetReady (now flags) (now first) (now dependency) (now next) (now order) (now place) (now run) (now marks) (now queue)
         (now followed) (now set) ⌝ }
     ensures { λ r. ⌜ SetBuilt recursive (now (flags .entry)) (now (first .entry)) (now (dependency .entry)) (now (next .entry))
         (now (order .entry)) (now (run .entry)) r (now (set .exit)) ⌝ }
@@ -46,7 +46,7 @@ pub fn build_set(
     if !recursive {
         return count;
     }
-    let found = capture_all(
+    let all = capture_all(
         flags,
         first,
         dependency,
@@ -56,7 +56,9 @@ pub fn build_set(
         queue,
         followed,
     );
-    let size = gather_set(order, place, &queue[..found], marks, set);
+    let found = all.found;
+    let alone = all.started == found;
+    let size = gather_found(alone, count, order, place, &queue[..found], marks, set);
     store_bytes(0, &queue[..found], marks);
     size
 }

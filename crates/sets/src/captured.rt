@@ -25,7 +25,13 @@ fn mark_starts(flags: &[u8], starts: &[u32], marks: &mut [u8], queue: &mut [u32]
     tail
 }
 
-// Marks all that is reached from the starts, where nothing is marked yet. Answers how many modules are on the list then.
+// How many modules were on the list with the starts alone, and with all that they reach.
+pub struct Found {
+    pub started: usize,
+    pub found: usize,
+}
+
+// Marks all that is reached from the starts, where nothing is marked yet.
 pub fn capture_all(
     flags: &[u8],
     first: &[u32],
@@ -35,12 +41,22 @@ pub fn capture_all(
     marks: &mut [u8],
     queue: &mut [u32],
     followed: &mut [u8],
-) -> usize
+) -> Found
     requires { ⌜ AllReady (now flags) (now first) (now dependency) (now next) (now starts) (now marks) (now queue) (now followed) ⌝ }
     ensures { λ r. ⌜ AllFound (now (flags .entry)) (now (first .entry)) (now (dependency .entry)) (now (next .entry))
-        (now (starts .entry)) (record { marks = now (marks .exit); queue = now (queue .exit); tail = r }) ⌝ }
+        (now (starts .entry)) (r .started) (record { marks = now (marks .exit); queue = now (queue .exit); tail = r .found }) ⌝ }
     ensures { λ _. ⌜ now (followed .exit) ≡ unfollowed ⌝ }
 {
-    let tail = mark_starts(flags, starts, marks, queue);
-    walk(flags, first, dependency, next, marks, queue, followed, tail)
+    let started = mark_starts(flags, starts, marks, queue);
+    let found = walk(
+        flags,
+        first,
+        dependency,
+        next,
+        marks,
+        queue,
+        followed,
+        started,
+    );
+    Found { started, found }
 }

@@ -20,10 +20,8 @@ long = omega (arith, length-replicate {A = ℕ} 4096 0)
 -- ---- what is known once the group is matched
 
 abbrev start : tie.After-match-group → tie.Start
-start m =
-    let matching = m .before .before .before in
-    let entered = matching .before .before .before .before .before .before .before .before .before .before .before .before in
-    entered .before .before .before .before .before .before .before .before .before .before
+start m = m .before .before .before .before .before .before .before .before .before .before .before .before .before .before .before .before .before .before
+    .before .before .before .before .before .before .before .before .before
 
 -- the matched modules are written to the front of it
 abbrev area : tie.After-match-group → List ℕ
@@ -40,8 +38,8 @@ slice-aggregate-match-group c = search needs
 
 match-group-requires : tie.Need-match-group-requires
 match-group-requires c κs =
-    let entered = c .before .before .before .before .before .before .before .before .before .before .before .before in
-    let p = entered .before .before .before .before .before .before .before .before .before .before .before .before .pre .0 in
+    let p = c .before .before .before .before .before .before .before .before .before .before .before .before .before .before .before .before .before .before
+    .before .before .before .before .before .before .before .before .pre .0 in
     group-ready (p .turning .b) (p .turning .fits) (p .fits) _ long
 
 array-share-prefix-matched : tie.Need-array-share-prefix-matched
@@ -52,7 +50,7 @@ slice-aggregate-convert-names c = let m = c .before .before in sym (length-take-
 
 convert-names-requires : tie.Need-convert-names-requires
 convert-names-requires c κs =
-    let m = c .before .before .before .before .before .before .before .before .before .before .before in
+    let m = c .before .before .before .before .before .before .before .before .before .before .before .before in
     let s = start m in
     let p = s .pre .0 in
     (record { turning = p .turning; fits = group-fits (p .turning .b) (p .turning .fits) (p .fits) (m .match-group .ensures) }, s .pre .1)
@@ -84,11 +82,14 @@ same-length-8 c = search needs
 same-length-9 : tie.Need-same-length-9
 same-length-9 c = search needs
 
+same-length-10 : tie.Need-same-length-10
+same-length-10 c = search needs
+
 returns : tie.Need-returns
 returns c =
-    let called =
-    c .before .before .before .before .before .before .before .before .before .before .before .before .before .before .before .before .before .before in
-    let m = called .before .before .before .before .before .before .before .before .before .before .before .before in
+    let called = c .before .before .before .before .before .before .before .before .before .before .before .before .before .before .before .before .before
+    .before .before .before in
+    let m = called .before .before .before .before .before .before .before .before .before .before .before .before .before in
     let e = called .convert-names .ensures in
     (group-turned (m .match-group .ensures) (e .0), e .1)
 
@@ -110,4 +111,5 @@ convert-group-spec =
     same-length-7
     same-length-8
     same-length-9
+    same-length-10
     returns)

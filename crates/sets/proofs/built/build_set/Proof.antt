@@ -1,16 +1,19 @@
 -- `sets::built::build_set` meets its contract: with recursion off the starts, and else what is marked from them.
 use Prim.Native.Nat.{ℕ, _≤_}
 use mathlib.Core.Bool.{true, false≢true}
-use mathlib.Core.List.{List}
-use mathlib.Core.Path.{_≡_, sym, _∙_, subst}
+use mathlib.Core.List.{List, _++_, List·Memᴰ}
+use mathlib.Core.Path.{_≡_, sym, ap, _∙_, subst}
 use native.Mathlib.Omega.{arith}
-use borrow.Author.Tests.{not-true, not-false}
-use lib.ListN.{length, getD, take}
+use borrow.Author.Tests.{eqb-true, not-true, not-false}
+use lib.ListN.{length, getD, take, drop}
 use lib.Seq.{length-take-le}
 use Rattle.capture.proofs.Storing.{on-list, list-in, marks-undone}
 use Rattle.capture.proofs.Walking.{list-within}
-use Rattle.sets.specs.Captured.{AllCaptured}
+use Rattle.sets.specs.Built.{startsOf}
+use Rattle.sets.specs.Captured.{StartsIn, AllCaptured}
+use Rattle.sets.specs.Gathered.{markedIn}
 use Rattle.sets.proofs.Building.{holds-starts, stored-starts, stored-length, stored-in, front-room}
+use Rattle.sets.proofs.FoundAlone.{alone-marked}
 use borrow.Author.Needs.{needs}
 use Rattle.sets.proofs.built.build_set.Statement.{statement}
 use Rattle.sets.proofs.built.build_set.Tie as tie
@@ -25,11 +28,28 @@ starts w = w .before .before .before .before .before .before .before .before
 area-fits : (s : tie.Start) → length (s .args .run .now) ≡ length (take (length (s .args .run .now)) (s .args .set .now))
 area-fits s = sym (length-take-le _ (s .args .set .now) (s .pre .run-room))
 
+-- the starts stand at the front of the area
+abbrev area : tie.After-store-starts → List ℕ
+area k = k .store-starts .last .1 .1 .0 ++ drop (length (entry k .args .run .now)) (entry k .args .set .now)
+
+as-long : (k : tie.After-store-starts) {n : ℕ} → n ≤ length (entry k .args .set .now) → n ≤ length (area k)
+as-long k h =
+    front-room (entry k .args .set .now) (k .store-starts .last .1 .1 .0) (length (entry k .args .run .now)) (k .store-starts .kept .1 .1 .0) h
+
+stored : (k : tie.After-store-starts)
+    → take (length (entry k .args .run .now)) (area k) ≡ startsOf (entry k .args .order .now) (entry k .args .run .now)
+stored k = stored-starts (entry k .args .order .now) (entry k .args .run .now) _ (k .store-starts .ensures)
+
+inside : (k : tie.After-store-starts) → StartsIn (take (length (entry k .args .run .now)) (area k)) (length (entry k .args .flags .now))
+inside k =
+    let s = entry k in
+    stored-in (s .args .order .now) (s .args .run .now) _ (k .store-starts .ensures) _ (s .pre .modules-in) (s .pre .placed)
+
 abbrev marks-then : tie.After-capture-all → List ℕ
 marks-then w = w .capture-all .last .1 .1 .1 .1 .1 .0
 
 -- the list of the walk has room for what was found
-found-fits : (w : tie.After-capture-all) → w .capture-all .result ≤ length (w .capture-all .last .1 .1 .1 .1 .1 .1 .0)
+found-fits : (w : tie.After-capture-all) → w .capture-all .result .found ≤ length (w .capture-all .last .1 .1 .1 .1 .1 .1 .0)
 found-fits w =
     let state = w .capture-all .ensures .0 .state in
     omega (arith, list-within _ _ _ state, state .room)
@@ -78,44 +98,55 @@ capture-all-requires c κs =
     let s = entry k in
     record {
       tables = s .pre .tables;
-      starts-in = stored-in (s .args .order .now) (s .args .run .now) _ (k .store-starts .ensures) _ (s .pre .modules-in) (s .pre .placed);
+      starts-in = inside k;
       unmarked = s .pre .unmarked;
       room = s .pre .queue-room;
       clear = s .pre .clear;
     }
 
-slice-reshare-prefix-gather-set : tie.Need-slice-reshare-prefix-gather-set
-slice-reshare-prefix-gather-set c = found-fits (c .before .before .before .before .before .before)
+slice-reshare-prefix-gather-found : tie.Need-slice-reshare-prefix-gather-found
+slice-reshare-prefix-gather-found c = found-fits (c .before .before .before .before .before .before .before)
 
-slice-aggregate-gather-set : tie.Need-slice-aggregate-gather-set
-slice-aggregate-gather-set c = sym (length-take-le _ _ (found-fits (c .before .before .before .before .before .before .before)))
+slice-aggregate-gather-found : tie.Need-slice-aggregate-gather-found
+slice-aggregate-gather-found c = sym (length-take-le _ _ (found-fits (c .before .before .before .before .before .before .before .before)))
 
-gather-set-requires : tie.Need-gather-set-requires
-gather-set-requires c κs =
-    let w = c .before .before .before .before .before .before .before .before .before in
+gather-found-requires : tie.Need-gather-found-requires
+gather-found-requires c κs =
+    let w = c .before .before .before .before .before .before .before .before .before .before in
     let k = starts w in
     let s = entry k in
     let state = w .capture-all .ensures .0 .state in
-    let on = recursion-on w in
-    record {
-      few = s .pre .few;
-      places = s .pre .places on;
-      has-place = λ i h. omega (arith, list-in state (found-fits w) i h, s .pre .place-room);
-      has-mark = λ i h. omega (arith, s .pre .modules-in i h, state .mark-bytes);
-      listed = λ i h e. on-list state (found-fits w) (getD (s .args .order .now) i 0) (s .pre .modules-in i h) e;
-      room = front-room (s .args .set .now) (k .store-starts .last .1 .1 .0) (length (s .args .run .now)) (k .store-starts .kept .1 .1 .0) (s .pre .room);
-    }
+    let order = s .args .order .now in
+    let run = s .args .run .now in (
+      record {
+        few = s .pre .few;
+        places = s .pre .places;
+        has-place = λ i h. omega (arith, list-in state (found-fits w) i h, s .pre .place-room);
+        has-mark = λ i h. omega (arith, s .pre .modules-in i h, state .mark-bytes);
+        listed = λ i h e. on-list state (found-fits w) (getD order i 0) (s .pre .modules-in i h) e;
+        room = as-long k (s .pre .room);
+      },
+      record {
+        fits = as-long k (s .pre .run-room);
+        has-mark = λ i h. omega (arith, inside k i h, state .mark-bytes);
+        same = λ alone.
+            ap (markedIn (marks-then w)) (stored k)
+            ∙ alone-marked order (s .args .place .now) run (marks-then w) (s .pre .places) (s .pre .placed) (s .pre .rising) (λ i h e.
+            subst (λ (l : List ℕ). List·Memᴰ (getD order i 0) l) (stored k)
+            (w .capture-all .ensures .0 .alone (eqb-true _ _ alone) (getD order i 0) (s .pre .modules-in i h) e));
+      },
+    )
 
 slice-reshare-prefix-store-bytes : tie.Need-slice-reshare-prefix-store-bytes
-slice-reshare-prefix-store-bytes c = found-fits (c .before .before .before .before .before .before .before .before .before .before .before .before)
+slice-reshare-prefix-store-bytes c = found-fits (c .before .before .before .before .before .before .before .before .before .before .before .before .before)
 
 slice-aggregate-store-bytes : tie.Need-slice-aggregate-store-bytes
 slice-aggregate-store-bytes c =
-    sym (length-take-le _ _ (found-fits (c .before .before .before .before .before .before .before .before .before .before .before .before .before)))
+    sym (length-take-le _ _ (found-fits (c .before .before .before .before .before .before .before .before .before .before .before .before .before .before)))
 
 store-bytes-requires : tie.Need-store-bytes-requires
 store-bytes-requires c κs =
-    let w = c .before .before .before .before .before .before .before .before .before .before .before .before .before .before in
+    let w = c .before .before .before .before .before .before .before .before .before .before .before .before .before .before .before in
     let state = w .capture-all .ensures .0 .state in
     λ i h. omega (arith, list-in state (found-fits w) i h, state .mark-bytes)
 
@@ -133,7 +164,8 @@ same-length-5 c = search needs
 
 returns-2 : tie.Need-returns-2
 returns-2 c =
-    let w = c .before .before .before .before .before .before .before .before .before .before .before .before .before .before .before .before .before in
+    let w =
+    c .before .before .before .before .before .before .before .before .before .before .before .before .before .before .before .before .before .before in
     let k = starts w in
     let s = entry k in
     let a = s .args in
@@ -145,8 +177,8 @@ returns-2 c =
               marks = marks-then w;
               marked =
                   subst (λ (l : List ℕ). AllCaptured (a .flags .now) (a .first .now) (a .dependency .now) (a .next .now) l (marks-then w))
-                  (stored-starts (a .order .now) (a .run .now) _ (k .store-starts .ensures)) (walked .0 .captured);
-              holds = c .before .before .before .before .before .before .before .gather-set .ensures;
+                  (stored k) (walked .0 .captured);
+              holds = c .before .before .before .before .before .before .before .gather-found .ensures;
             };
       },
       (c .before .before .store-bytes .ensures ∙ marks-undone (walked .0 .state) (found-fits w), walked .1),
@@ -164,9 +196,9 @@ build-set-spec =
     slice-reshare-prefix-capture-all
     slice-aggregate-capture-all
     capture-all-requires
-    slice-reshare-prefix-gather-set
-    slice-aggregate-gather-set
-    gather-set-requires
+    slice-reshare-prefix-gather-found
+    slice-aggregate-gather-found
+    gather-found-requires
     slice-reshare-prefix-store-bytes
     slice-aggregate-store-bytes
     store-bytes-requires

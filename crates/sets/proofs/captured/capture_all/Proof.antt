@@ -1,5 +1,5 @@
 -- `sets::captured::capture_all` meets its contract: with the starts visited it is a walk from what is marked.
-use Rattle.sets.proofs.Starts.{cleared-state, starts-state, starts-captured}
+use Rattle.sets.proofs.Starts.{cleared-state, starts-state, starts-captured, starts-alone}
 use borrow.Author.Needs.{needs}
 use Rattle.sets.proofs.captured.capture_all.Statement.{statement}
 use Rattle.sets.proofs.captured.capture_all.Tie as tie
@@ -42,6 +42,8 @@ returns c =
         captured = starts-captured (a .flags .now) (a .queue .now) _ _ (s .pre .unmarked) (s .pre .room) (a .starts .now) (s .pre .starts-in)
             visits (a .first .now) (a .dependency .now) (a .next .now) _ (walked .0 .marked);
         state = walked .0 .state;
+        alone = starts-alone (a .flags .now) (a .queue .now) _ _ (s .pre .unmarked) (s .pre .room) (a .starts .now) (s .pre .starts-in)
+            visits (a .first .now) (a .dependency .now) (a .next .now) _ (walked .0 .state) (walked .0 .marked);
       },
       walked .1,
     )

@@ -1,29 +1,23 @@
 -- `sets::gathered::store_places` meets its contract: the place of one module more a turn.
 use Prim.Native.Nat.{_-_}
-use mathlib.Core.Bool.{false≢true}
-use mathlib.Core.Path.{sym, _∙_}
 use native.Mathlib.Omega.{arith}
 use mir.Facts.{fits-32-64}
-use borrow.Author.Tests.{not-true}
 use lib.ListN.{length}
 use Rattle.sets.proofs.Placing.{Placing, none-placed, module-in, one-placed, all-placed}
 use Rattle.sets.proofs.gathered.store_places.Statement.{statement}
 use Rattle.sets.proofs.gathered.store_places.Tie as tie
 
 abbrev Inv-loop : tie.InvT-loop
-Inv-loop asked order place₀ i₀ place i = Placing order place₀ i place
+Inv-loop order place₀ i₀ place i = Placing order place₀ i place
 
 abbrev μ-loop : tie.MeasureT-loop
-μ-loop asked order place₀ i₀ place i = length order - i
-
-returns : tie.Need-returns Inv-loop μ-loop
-returns c = λ on. absurd (false≢true (sym (not-true (c .before .args .asked) (c .if1 .taken)) ∙ on))
+μ-loop order place₀ i₀ place i = length order - i
 
 loop-holds : tie.Need-loop-holds Inv-loop μ-loop
-loop-holds c = none-placed (c .before .pre)
+loop-holds c = none-placed (c .pre)
 
 cast-place : tie.Need-cast-place Inv-loop μ-loop
-cast-place c = omega (arith, c .before .before .before .pre .few)
+cast-place c = omega (arith, c .before .before .pre .few)
 
 mul-place : tie.Need-mul-place Inv-loop μ-loop
 mul-place c = omega arith
@@ -36,11 +30,11 @@ cast-place-2 c = fits-32-64 (c .shared-slice-known .given _)
 
 mul-place-2 : tie.Need-mul-place-2 Inv-loop μ-loop
 mul-place-2 c =
-    let s = c .before .before .before .before in
+    let s = c .before .before .before in
     omega (arith, s .pre .room (c .before .before .loop .i) (c .before .loop-test .taken), s .good)
 
 slice-write-place : tie.Need-slice-write-place Inv-loop μ-loop
-slice-write-place c = module-in (c .before .before .before .before .pre) (c .before .before .loop .inv) (c .before .loop-test .taken)
+slice-write-place c = module-in (c .before .before .before .pre) (c .before .before .loop .inv) (c .before .loop-test .taken)
 
 add-i : tie.Need-add-i Inv-loop μ-loop
 add-i c = omega arith
@@ -49,13 +43,13 @@ loop-less : tie.Need-loop-less Inv-loop μ-loop
 loop-less c = omega arith
 
 loop-again : tie.Need-loop-again Inv-loop μ-loop
-loop-again c = one-placed (c .before .before .before .before .pre) (c .before .before .loop .inv) (c .before .loop-test .taken)
+loop-again c = one-placed (c .before .before .before .pre) (c .before .before .loop .inv) (c .before .loop-test .taken)
 
 same-length : tie.Need-same-length Inv-loop μ-loop
 same-length c = c .before .loop .inv .same-length
 
-returns-2 : tie.Need-returns-2 Inv-loop μ-loop
-returns-2 c = λ _. all-placed (c .before .before .before .pre) (c .before .loop .inv) (c .loop-test .left)
+returns : tie.Need-returns Inv-loop μ-loop
+returns c = all-placed (c .before .before .pre) (c .before .loop .inv) (c .loop-test .left)
 
 pub store-places-spec : {M : Type 1} → statement M
 store-places-spec =
@@ -63,7 +57,6 @@ store-places-spec =
     (tie.spec
     Inv-loop
     μ-loop
-    returns
     loop-holds
     cast-place
     mul-place
@@ -75,4 +68,4 @@ store-places-spec =
     loop-less
     loop-again
     same-length
-    returns-2)
+    returns)
