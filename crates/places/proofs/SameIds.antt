@@ -1,4 +1,4 @@
--- In id order, neighbours with the same id stand side by side: there are some exactly where two modules share an id.
+-- In id order two neighbours have the same id exactly where two modules share an id, and where none do the list rises.
 use Prim.Native.Nat.{ℕ, _+_, _-_, _<_}
 use mathlib.Core.Bool.{Bool, true, false, true≢false, false≢true}
 use mathlib.Core.List.{List, [], _∷_}

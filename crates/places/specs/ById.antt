@@ -20,7 +20,7 @@ unfoldable pub tiedAt : List ℕ → List ℕ → List ℕ → ℕ → Bool
 unfolding sameNumbers idAt
 tiedAt bytes offsets list i = sameId bytes offsets (getD list i 0) (getD list (i + 1) 0)
 
--- some neighbours have
+-- two neighbours of the list have the same id
 unfoldable pub neighboursTie : List ℕ → List ℕ → List ℕ → Bool
 unfolding anyBelow tiedAt
 neighboursTie bytes offsets list = anyBelow (tiedAt bytes offsets list) (length list - 1)

@@ -19,7 +19,7 @@ fn tied_at(bytes: &[u8], offsets: &[u32], list: &[u32], i: usize) -> bool
     same_id(lhs, rhs)
 }
 
-// Whether two neighbours of a list have the same id. In id order any two modules that share an id stand in such a row.
+// Whether two neighbours of a list have the same id. In id order there are such neighbours exactly where two modules share an id.
 pub fn shares_id(bytes: &[u8], offsets: &[u32], list: &[u32]) -> bool
     requires { ⌜ Named (now bytes) (now offsets) (now list) ⌝ }
     ensures { λ r. ⌜ r ≡ neighboursTie (now (bytes .entry)) (now (offsets .entry)) (now (list .entry)) ⌝ }
