@@ -1,6 +1,7 @@
 -- The laws of blocks and of shared bytes, of sorting by them, and what the proofs of the code cite.
 pub mod Bytes
 pub mod Prefixes
+pub mod SameBytes
 pub mod Refining
 pub mod Packing
 pub mod SortRuns

@@ -10,12 +10,13 @@ use Rattle.lists.proofs.Pairs.{pairs-at}
 use Rattle.lists.proofs.Position.{getD-mem}
 use Rattle.lists.proofs.Rearranged.{sort-perm, perm-length}
 use Rattle.lists.proofs.Sort.{sort-mem}
+use Rattle.lists.proofs.Sorted.{Sorted}
 use Rattle.sorts.specs.ById.{byId, Named}
 use Rattle.sorts.proofs.Naming.{named-within}
 use Rattle.sorts.proofs.Orders.{by-id}
 use Rattle.places.specs.AnyTwo.{anyTwo}
 use Rattle.places.specs.ById.{sameId, neighboursTie, HasRanks, Rankable}
-use Rattle.places.proofs.SameIds.{untied-rises, ties-share}
+use Rattle.places.proofs.SameIds.{in-id-order, untied-rises, ties-share}
 
 module _ (bytes offsets list : List ℕ) {list′ : List ℕ} (sorted : list′ ≡ sortBy (byId bytes offsets) list) where
   member : (m : ℕ) → List·Memᴰ m list′ → List·Memᴰ m list
@@ -35,9 +36,12 @@ module _ (bytes offsets list : List ℕ) {list′ : List ℕ} (sorted : list′ 
         has-rank = λ i h. given .has-rank (getD list′ i 0) (member (getD list′ i 0) (getD-mem list′ i 0 h));
       }
     where
+      in-order : Sorted (byId bytes offsets) list′
+      in-order = subst (λ (l : List ℕ). Sorted (byId bytes offsets) l) (sym sorted) (in-id-order bytes offsets list)
+
       apart : (i j : ℕ) → i < j → j < length list′ → getD list′ i 0 ≡ getD list′ j 0 → ⊥
       apart i j u v q =
           true≢false
-          (sym (pairs-at (untied-rises bytes offsets list′ e) i j 0 u v)
+          (sym (pairs-at (untied-rises bytes offsets list′ in-order e) i j 0 u v)
           ∙ ap (λ (m : ℕ). byId bytes offsets m (getD list′ j 0)) q
           ∙ by-id bytes offsets .irrefl (getD list′ j 0))

@@ -19,7 +19,7 @@ use Rattle.places.specs.AnyTwo.{anyTwo}
 use Rattle.places.specs.ById.{sameId, Ranks}
 use Rattle.places.specs.Ordered.{ranksSorted}
 use Rattle.places.proofs.Packing.{pack, pack-apart, packed-sort}
-use Rattle.places.proofs.SameIds.{untied-rises, ties-share}
+use Rattle.places.proofs.SameIds.{in-id-order, untied-rises, ties-share}
 
 module _ (bytes offsets list : List ℕ) {rank₀ rank : List ℕ} (ranks : Ranks (sortBy (byId bytes offsets) list) rank₀ rank) where
   abbrev rankOf : ℕ → ℕ
@@ -40,7 +40,7 @@ module _ (bytes offsets list : List ℕ) {rank₀ rank : List ℕ} (ranks : Rank
 
   module _ (apart : anyTwo (sameId bytes offsets) list ≡ false) where
     rises : Rising (byId bytes offsets) sorted
-    rises = untied-rises bytes offsets sorted (ties-share bytes offsets list ∙ apart)
+    rises = untied-rises bytes offsets sorted (in-id-order bytes offsets list) (ties-share bytes offsets list ∙ apart)
 
     first : (l m : ℕ) → List·Memᴰ l list → List·Memᴰ m list → rankOf l < rankOf m → byId bytes offsets l m ≡ true
     first l m i j h =

@@ -1,13 +1,12 @@
 -- The ranks of modules among their ids.
 use Prim.Native.Nat.{ℕ, _+_, _-_, _≤_, _<_}
-use mathlib.Core.Bool.{Bool, false, not}
+use mathlib.Core.Bool.{Bool, false}
 use mathlib.Core.List.{List, List·Memᴰ}
 use mathlib.Core.Path.{_≡_}
 use lib.ListN.{length, getD}
 use Rattle.lists.specs.Below.{anyBelow}
 use Rattle.lists.specs.Same.{sameNumbers}
 use Rattle.lists.specs.Sort.{sortBy}
-use Rattle.ids.specs.Order.{before}
 use Rattle.ids.specs.Parts.{idAt}
 use Rattle.sorts.specs.ById.{byId, Named}
 use Rattle.places.specs.AnyTwo.{anyTwo}
@@ -16,12 +15,12 @@ use Rattle.places.specs.AnyTwo.{anyTwo}
 abbrev pub sameId : List ℕ → List ℕ → ℕ → ℕ → Bool
 sameId bytes offsets l m = sameNumbers (idAt bytes offsets l) (idAt bytes offsets m)
 
--- the ids of the modules at i and i + 1 of the list do not rise
+-- the modules at i and i + 1 of the list have the same id
 unfoldable pub tiedAt : List ℕ → List ℕ → List ℕ → ℕ → Bool
-unfolding before idAt
-tiedAt bytes offsets list i = not (byId bytes offsets (getD list i 0) (getD list (i + 1) 0))
+unfolding sameNumbers idAt
+tiedAt bytes offsets list i = sameId bytes offsets (getD list i 0) (getD list (i + 1) 0)
 
--- those of some neighbours do not rise
+-- two neighbours of the list have the same id
 unfoldable pub neighboursTie : List ℕ → List ℕ → List ℕ → Bool
 unfolding anyBelow tiedAt
 neighboursTie bytes offsets list = anyBelow (tiedAt bytes offsets list) (length list - 1)

@@ -1,6 +1,7 @@
 // Ranks of the modules among their ids, and refusal 4.
+use ids::parts::id_at;
 use idsort::rounds::sort_by_id;
-use idsort::shared::comes_before;
+use idsort::shared::same_id;
 use index::ModuleIdx;
 ghost use mathlib.Core.Path.{_≡_};
 ghost use Prim.Native.Nat.{_+_, _<_};
@@ -8,17 +9,17 @@ ghost use lib.ListN.{length};
 ghost use Rattle.sorts.specs.ById.{Named};
 ghost use Rattle.places.specs.ById.{tiedAt, neighboursTie, Rankable, Ranks, HasRanks, RankArea, RankedById};
 
-// Whether the ids of the modules at i and i + 1 of a list do not rise.
+// Whether the modules at i and i + 1 of a list have the same id.
 fn tied_at(bytes: &[u8], offsets: &[u32], list: &[u32], i: usize) -> bool
     requires { ⌜ Named (now bytes) (now offsets) (now list) × (i + 1 < length (now list)) ⌝ }
     ensures { λ r. ⌜ r ≡ tiedAt (now (bytes .entry)) (now (offsets .entry)) (now (list .entry)) i ⌝ }
 {
-    let lhs = list[i];
-    let rhs = list[i + 1];
-    !comes_before(bytes, offsets, ModuleIdx(lhs), ModuleIdx(rhs), 0)
+    let lhs = id_at(bytes, offsets, ModuleIdx(list[i]));
+    let rhs = id_at(bytes, offsets, ModuleIdx(list[i + 1]));
+    same_id(lhs, rhs)
 }
 
-// Whether two neighbours of a list do not rise. In id order such neighbours share an id.
+// Whether two neighbours of a list have the same id. In id order there are such neighbours exactly where two modules share an id.
 pub fn shares_id(bytes: &[u8], offsets: &[u32], list: &[u32]) -> bool
     requires { ⌜ Named (now bytes) (now offsets) (now list) ⌝ }
     ensures { λ r. ⌜ r ≡ neighboursTie (now (bytes .entry)) (now (offsets .entry)) (now (list .entry)) ⌝ }

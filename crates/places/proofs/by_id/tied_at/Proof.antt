@@ -1,49 +1,58 @@
--- `places::by_id::tied_at` meets its contract: the two ids are compared from their first bytes on.
+-- `places::by_id::tied_at` meets its contract: the two ids are compared.
 use Prim.Native.Nat.{_+_}
-use mathlib.Core.Bool.{not}
-use mathlib.Core.Path.{ap}
+use mathlib.Core.Path.{ap₂, _∙_}
 use native.Mathlib.Omega.{arith}
+use Rattle.lists.specs.Same.{sameNumbers}
 use Rattle.sorts.proofs.Naming.{place-in-table}
 use Rattle.places.specs.ById.{tiedAt}
+use Rattle.places.proofs.SameIds.{compared-same}
 use borrow.Author.Needs.{needs}
 use Rattle.places.proofs.by_id.tied_at.Statement.{statement}
 use Rattle.places.proofs.by_id.tied_at.Tie as tie
 
-mul-lhs : tie.Need-mul-lhs
-mul-lhs c = search needs
+mul-t7 : tie.Need-mul-t7
+mul-t7 c = search needs
 
-shared-slice-read-lhs : tie.Need-shared-slice-read-lhs
-shared-slice-read-lhs c = search needs
+shared-slice-read-t9 : tie.Need-shared-slice-read-t9
+shared-slice-read-t9 c = search needs
 
-add-rhs : tie.Need-add-rhs
-add-rhs c = search needs
+id-at-requires : tie.Need-id-at-requires
+id-at-requires c κs =
+    let s = c .before .before .before .before in
+    place-in-table _ _ (s .args .list .now) (s .pre .0) (s .args .i) (omega arith)
 
-mul-rhs : tie.Need-mul-rhs
-mul-rhs c = search needs
+add-t7 : tie.Need-add-t7
+add-t7 c = search needs
 
-shared-slice-read-rhs : tie.Need-shared-slice-read-rhs
-shared-slice-read-rhs c = search needs
+mul-t11 : tie.Need-mul-t11
+mul-t11 c = search needs
 
-comes-before-requires : tie.Need-comes-before-requires
-comes-before-requires c κs =
-    let s = c .before .before .before .before .before in (
-      place-in-table _ _ (s .args .list .now) (s .pre .0) (s .args .i) (omega arith),
-      place-in-table _ _ (s .args .list .now) (s .pre .0) (s .args .i + 1) (omega arith),
-      record { left-has = omega arith; right-has = omega arith; same = λ j h. absurd (omega arith) },
-    )
+shared-slice-read-t9-2 : tie.Need-shared-slice-read-t9-2
+shared-slice-read-t9-2 c = search needs
+
+id-at-requires-2 : tie.Need-id-at-requires-2
+id-at-requires-2 c κs =
+    let s = c .before .before .before .before .before .before in
+    place-in-table _ _ (s .args .list .now) (s .pre .0) (s .args .i + 1) (omega arith)
+
+same-id-requires : tie.Need-same-id-requires
+same-id-requires c κs = search needs
 
 returns : tie.Need-returns
 unfolding tiedAt
-returns c = ap not (c .comes-before .ensures)
+returns c =
+    compared-same _ (c .same-id .ensures) ∙ ap₂ sameNumbers (c .before .before .before .id-at .ensures) (c .before .id-at2 .ensures)
 
 pub tied-at-spec : {M : Type 1} → statement M
 tied-at-spec =
     tie.close
     (tie.spec
-    mul-lhs
-    shared-slice-read-lhs
-    add-rhs
-    mul-rhs
-    shared-slice-read-rhs
-    comes-before-requires
+    mul-t7
+    shared-slice-read-t9
+    id-at-requires
+    add-t7
+    mul-t11
+    shared-slice-read-t9-2
+    id-at-requires-2
+    same-id-requires
     returns)
