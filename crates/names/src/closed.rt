@@ -1,8 +1,7 @@
 // Closed sets: a set that is in chunks whole is passed over by the walks of later sets of its group.
-use capture::store::store_bytes;
+use lists::store::store_bytes;
 use options::Settings;
 ghost use mathlib.Core.Path.{_≡_};
-ghost use lib.ListN.{length};
 ghost use Rattle.emitting.specs.Emitted.{HasEntry};
 ghost use Rattle.names.specs.Closed.{closes, someLeft, closedAfter};
 
@@ -14,18 +13,6 @@ pub fn can_close(settings: Settings) -> bool
         return false;
     }
     settings.recursive
-}
-
-// The flag bytes as they are at first.
-pub fn copy_flags(flags: &[u8], live: &mut [u8])
-    requires { ⌜ length (now live) ≡ length (now flags) ⌝ }
-    ensures { λ _. ⌜ now (live .exit) ≡ now (flags .entry) ⌝ }
-{
-    let mut i = 0;
-    while i < live.len() {
-        live[i] = flags[i];
-        i = i + 1;
-    }
 }
 
 // Whether some module of the set has no chunk.

@@ -3,14 +3,14 @@ pub mod closed;
 
 use crate::closed::can_close;
 use crate::closed::close_set;
-use crate::closed::copy_flags;
 use bitset::entries::BitSet;
-use capture::clear::clear_bytes;
 use emitting::emit::Head;
 use entries_aware::convert_subgroups;
 use index::ChunkIdx;
 use items::convert::Limits;
 use items::convert::convert_item_to_chunks;
+use lists::copy::copy_bytes;
+use lists::fill::clear_bytes;
 use options::Settings;
 use sets::built::build_set;
 use sets::gathered::store_places;
@@ -209,7 +209,7 @@ pub fn convert_names(
     let mut place = [0u32; 4096];
     store_places(settings.recursive, order, &mut place);
     let mut live = [0u8; 4096];
-    copy_flags(flags, &mut live[..n]);
+    copy_bytes(flags, &mut live[..n]);
     let closing = can_close(settings);
     let mut made = 0;
     let mut from = 0;

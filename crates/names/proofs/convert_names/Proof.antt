@@ -8,7 +8,7 @@ use native.Mathlib.Omega.{arith}
 use borrow.Author.Needs.{needs}
 use lib.ListN.{length, take, drop, replicate, length-append, length-drop, length-replicate}
 use lib.Seq.{length-take-le, take-at}
-use Rattle.records.proofs.Stored.{zeros}
+use Rattle.lists.proofs.Stored.{zeros}
 use Rattle.capture.specs.Followed.{unfollowed}
 use Rattle.capture.proofs.Trail.{unfollowed-bytes}
 use Rattle.options.specs.declared.Settings.{Settings}
@@ -16,8 +16,7 @@ use Rattle.running.specs.Fits.{Walking}
 use Rattle.names.specs.Closed.{closedAfter}
 use Rattle.names.proofs.ClosedSets.{Passing, passing-none}
 use Rattle.names.proofs.SetOfRun.{places-free, set-ready}
-use Rattle.names.proofs.NameSteps.{NamesDone, names-start, number-now, place-now, count-in, number-next, names-next, names-turned}
-use Rattle.names.proofs.NameSteps.{set-entries, set-flags, set-offered, passing-then}
+use Rattle.names.proofs.NameSteps.{NamesDone, names-start, number-now, place-now, count-in, number-next, names-next, names-turned, set-entries, set-flags, set-offered, passing-then}
 use Rattle.names.proofs.convert_names.Statement.{statement}
 use Rattle.names.proofs.convert_names.Tie as tie
 
@@ -131,13 +130,13 @@ array-borrow-prefix-live c = omega (
       .before .before .before .before .before .before .before .before .before .before .before .before .before .before .before .pre .1 .few,
 )
 
-slice-aggregate-copy-flags : tie.Need-slice-aggregate-copy-flags Inv-loop μ-loop
-slice-aggregate-copy-flags c = let s = c .before .before .before .before .before .before .before .before .before .before .before .before .before
+slice-aggregate-copy-bytes : tie.Need-slice-aggregate-copy-bytes Inv-loop μ-loop
+slice-aggregate-copy-bytes c = let s = c .before .before .before .before .before .before .before .before .before .before .before .before .before
     .before .before .before .before .before .before .before .before .before .before .before .before .before .before .before in sym (zero-bytes (s
     .args .n) (s .pre .1 .few))
 
-copy-flags-requires : tie.Need-copy-flags-requires Inv-loop μ-loop
-copy-flags-requires c κs = let s = c .before .before .before .before .before .before .before .before .before .before .before .before .before
+copy-bytes-requires : tie.Need-copy-bytes-requires Inv-loop μ-loop
+copy-bytes-requires c κs = let s = c .before .before .before .before .before .before .before .before .before .before .before .before .before
     .before .before .before .before .before .before .before .before .before .before .before .before .before .before .before in zero-bytes (s .args
     .n) (s .pre .1 .few) ∙ sym (s .pre .1 .modules)
 
@@ -150,8 +149,8 @@ loop-holds c =
     .before .before .before .before .before .before .before .before .before .before .before .before .before .before .before in
     let room = s .pre .1 in
     let n = s .args .n in
-    let copied = c .before .before .copy-flags .ensures in
-    let front = c .before .before .copy-flags .last .1 .0 in
+    let copied = c .before .before .copy-bytes .ensures in
+    let front = c .before .before .copy-bytes .last .1 .0 in
     let zeros-long : n ≤ length (replicate {A = ℕ} 4096 0) = omega (arith, room .few, length-replicate {A = ℕ} 4096 0) in (
       names-start,
       c .before .before .before .before .before .before .before .before .before .clear-bytes .ensures ∙ ap (λ (k : ℕ). replicate k 0) (room
@@ -159,7 +158,7 @@ loop-holds c =
       refl,
       refl,
       room .clear,
-      back-length front (replicate 4096 0) n zeros-long (c .before .before .copy-flags .kept .1 .0) ∙ length-replicate {A = ℕ} 4096 0,
+      back-length front (replicate 4096 0) n zeros-long (c .before .before .copy-bytes .kept .1 .0) ∙ length-replicate {A = ℕ} 4096 0,
       passing-none (take-at front (drop n (replicate 4096 0)) n (ap length copied ∙ room .modules) ∙ copied),
     )
 
@@ -378,8 +377,8 @@ convert-names-spec =
     slice-aggregate-store-places
     store-places-requires
     array-borrow-prefix-live
-    slice-aggregate-copy-flags
-    copy-flags-requires
+    slice-aggregate-copy-bytes
+    copy-bytes-requires
     can-close-requires
     loop-holds
     run-end-requires
