@@ -13,7 +13,7 @@ use lib.Dec.{eqb, eqb·zero-suc, eqb·suc-zero, eqb·suc-suc}
 use lib.Ieee.{unlike}
 use lib.Pow.{shr-lt, shr-shr}
 use Rattle.lists.specs.Below.{allBelow, countBelow}
-use Rattle.lists.proofs.Below.{all-of, all-every, count-same, count-split}
+use Rattle.lists.proofs.Below.{same-truth, all-of, all-every, count-same, count-split}
 use Rattle.bitset.specs.Word.{bit, contains}
 
 two-pos : 0 < 2
@@ -125,13 +125,6 @@ ones-count (suc n) w h =
     ∙ add-comm (countBelow (bit w) 1) (countBelow (λ k. bit w (1 + k)) n)
     ∙ sym (count-split (bit w) 1 n)
     ∙ ap (countBelow (bit w)) (one-more n)
-
--- ---- two tests that hold together are equal
-
-pub same-truth : (a b : Bool) → (a ≡ true → b ≡ true) → (b ≡ true → a ≡ true) → a ≡ b
-same-truth true b f g = sym (f refl)
-same-truth false true f g = g refl
-same-truth false false f g = refl
 
 -- ---- a word has each bit of a mask
 

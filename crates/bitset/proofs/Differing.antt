@@ -1,6 +1,6 @@
 -- How many entries exactly one of two sets has: the ones of each word of the exclusive or, summed over the four words.
-use Prim.Native.Nat.{ℕ, zero, suc, _+_, _*_, _^_, _≤_, _<_}
-use mathlib.Core.Bool.{Bool, true, false, cond}
+use Prim.Native.Nat.{ℕ, _+_, _*_, _^_, _≤_, _<_}
+use mathlib.Core.Bool.{Bool, true, false}
 use mathlib.Core.Path.{_≡_, refl, sym, ap, ap₂, _∙_}
 use native.Mathlib.Nat.{zero-add}
 use native.Mathlib.Omega.{arith}
@@ -10,6 +10,7 @@ use lib.Dec.{lit<}
 use lib.Ieee.{unlike}
 use Rattle.lists.specs.Below.{countBelow}
 use Rattle.lists.proofs.Below.{count-same, count-split}
+use Rattle.lists.proofs.Count.{count-le, count-none}
 use Rattle.bitset.specs.Word.{bit}
 use Rattle.bitset.specs.Entries.{wordAt, hasBit, differing}
 use Rattle.bitset.specs.declared.entries.BitSet.{BitSet}
@@ -67,20 +68,6 @@ differing-comm a b =
     count-same (λ e. unlike (hasBit a e) (hasBit b e)) (λ e. unlike (hasBit b e) (hasBit a e)) 256
     (λ e h. unlike-comm (hasBit a e) (hasBit b e))
 
-count-le : (p : ℕ → Bool) (n : ℕ) → countBelow p n ≤ n
-unfolding countBelow
-count-le p zero = omega arith
-count-le p (suc n) = let rest = count-le p n in let one = digit (p n) in omega arith
-  where
-    digit : (t : Bool) → cond t 1 0 ≤ 1
-    digit true = omega arith
-    digit false = omega arith
-
-count-none : (p : ℕ → Bool) (n : ℕ) → ((k : ℕ) → p k ≡ false) → countBelow p n ≡ 0
-unfolding countBelow
-count-none p zero h = refl
-count-none p (suc n) h = rw (h n, count-none p n h)
-
 pub differing-le : (a b : BitSet) → differing a b ≤ 256
 unfolding differing
 differing-le a b = count-le (λ e. unlike (hasBit a e) (hasBit b e)) 256
@@ -91,4 +78,4 @@ ones-le {a} {b} p q = omega (arith, differing-ones p q, differing-le a b)
 
 pub differing-self : (a : BitSet) → differing a a ≡ 0
 unfolding differing
-differing-self a = count-none (λ e. unlike (hasBit a e) (hasBit a e)) 256 (λ e. unlike-self (hasBit a e))
+differing-self a = count-none (λ e. unlike (hasBit a e) (hasBit a e)) 256 (λ e h. unlike-self (hasBit a e))

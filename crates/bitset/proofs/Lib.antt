@@ -5,3 +5,4 @@ pub mod Words
 pub mod Sets
 pub mod Differing
 pub mod Beyond
+pub mod Rows

@@ -11,8 +11,10 @@ use lib.Seq.{ext-getD}
 use Rattle.bitset.specs.Word.{bit}
 use Rattle.bitset.specs.Entries.{wordAt, hasBit, empty, withBit, unionOf}
 use Rattle.bitset.specs.declared.entries.BitSet.{BitSet}
-use Rattle.bitset.proofs.Bits.{same-truth, bit-or, bit-zero, bit-power, bits-equal}
-use Rattle.bitset.proofs.Words.{Words, empty-word, union-word, set-cases, empty-words, union-words}
+use Rattle.bitset.proofs.Bits.{bit-or, bit-zero, bit-power, bits-equal}
+use Rattle.lists.proofs.Below.{same-truth}
+use Rattle.bitset.proofs.Words.{Words, empty-word, union-word, empty-words, union-words}
+use Rattle.lists.proofs.Stored.{set-cases}
 
 -- ---- the entries
 

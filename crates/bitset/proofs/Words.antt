@@ -1,22 +1,21 @@
 -- Which four words the operations on sets give, and that they are u64 words again.
 use Prim.Native.Nat.{ℕ, zero, suc, _+_, _*_, _/_, _%_, _^_, _≤_, _<_}
-use mathlib.Core.Bool.{Bool, true, false}
 use mathlib.Core.List.{List, [], _∷_, map}
-use mathlib.Core.Path.{_≡_, refl, sym, ap, _∙_, subst}
+use mathlib.Core.Path.{_≡_, refl, sym, ap, _∙_}
 use native.Mathlib.Nat.{add-zero}
 use native.Mathlib.Omega.{arith}
 use borrow.Author.Needs.{length-unmapped, elem-fits-field}
-use borrow.Author.Tests.{eqb-true, eqb-false}
 use denote.Array.{each}
 use denote.Plain.{UInt}
 use denote.Shadow.{shadow}
 use lib.Bits.{bitOr, or-lt}
-use lib.Dec.{eqb, lit<}
-use lib.ListN.{length, getD, set, take, drop, length-set, length-take, length-drop}
+use lib.Dec.{lit<}
+use lib.ListN.{length, getD, take, drop, length-set, length-take, length-drop}
 use lib.Pow.{pow-lt}
-use lib.Seq.{getD-set-same, getD-set-other, getD-take, getD-drop, ext-getD}
+use lib.Seq.{getD-take, getD-drop, ext-getD}
 use mir.Syntax.{w64}
 use mir.Val.{Val}
+use Rattle.lists.proofs.Stored.{set-cases}
 use Rattle.bitset.specs.Entries.{wordAt, empty, withBit, unionOf, rowOf}
 use Rattle.bitset.specs.declared.entries.BitSet.{BitSet}
 
@@ -55,16 +54,6 @@ union-words {a} {b} p q = record {
   four = refl;
   small = λ w h. rw (union-word a b w h) (or-lt 64 (wordAt a w) (wordAt b w) (p .small w h) (q .small w h));
 }
-
--- where word w of the changed list is looked for: the word changed, or another
-pub set-cases : (P : ℕ → Type 0) (l : List ℕ) (i v w : ℕ) → i < length l → (w ≡ i → P v) → ((w ≡ i → ⊥) → P (getD l w 0)) → P (getD (set l i v) w 0)
-set-cases P l i v w h same other = go (eqb w i) refl
-  where
-    go : (t : Bool) → eqb w i ≡ t → P (getD (set l i v) w 0)
-    go true e =
-        let q = eqb-true w i e in
-        subst (λ (j : ℕ). P (getD (set l i v) j 0)) (sym q) (subst P (sym (getD-set-same l i v 0 h)) (same q))
-    go false e = let n = eqb-false w i e in subst P (sym (getD-set-other l i w v 0 n)) (other n)
 
 pub with-words : {s : BitSet} (e : ℕ) → e < 256 → Words s → Words (withBit s e)
 unfolding withBit

@@ -1,5 +1,5 @@
 -- "entry bits as four u64 words, entry 0 being the lowest bit of the first word"
-use Prim.Native.Nat.{ℕ, _+_, _-_, _*_, _/_, _%_, _^_}
+use Prim.Native.Nat.{ℕ, _*_, _/_, _%_, _^_}
 use mathlib.Core.Bool.{Bool, _&&_}
 use mathlib.Core.List.{List, [], _∷_}
 use lib.Bits.{bitOr}
@@ -30,7 +30,14 @@ withBit s entry = record { words = set (s .words) (entry / 64) (bitOr (wordAt s 
 -- "bits unite": word by word
 unfoldable pub unionOf : BitSet → BitSet → BitSet
 unionOf a b =
-    record { words = bitOr (wordAt a 0) (wordAt b 0) ∷ bitOr (wordAt a 1) (wordAt b 1) ∷ bitOr (wordAt a 2) (wordAt b 2) ∷ bitOr (wordAt a 3) (wordAt b 3) ∷ [] }
+    record {
+      words =
+          bitOr (wordAt a 0) (wordAt b 0)
+          ∷ bitOr (wordAt a 1) (wordAt b 1)
+          ∷ bitOr (wordAt a 2) (wordAt b 2)
+          ∷ bitOr (wordAt a 3) (wordAt b 3)
+          ∷ [];
+    }
 
 -- the entries "held by exactly one of the two"
 unfoldable pub differing : BitSet → BitSet → ℕ

@@ -5,20 +5,18 @@ use mathlib.Core.List.{List, _++_}
 use mathlib.Core.Logic.{⊎-elim, inl, inr}
 use mathlib.Core.Path.{_≡_, sym, ap, _∙_, subst₂}
 use native.Mathlib.Omega.{arith}
-use borrow.Author.Tests.{eqb-true, not-false, ltb-false}
-use lib.Dec.{eqb, ltb}
+use borrow.Author.Tests.{ltb-false}
+use lib.Dec.{ltb}
 use lib.ListN.{length, take, drop, replicate, List·getD-append}
 use lib.Seq.{length-take-le, length-front, drop-at}
 use Rattle.lists.proofs.Below.{neither}
 use Rattle.refusal.specs.Counts.{moduleLimit, recordLimit, badLength}
+use Rattle.refusal.proofs.Lengths.{right-length, first-length}
 use Rattle.records.specs.Bad.{RecordTables, badRecords}
 use Rattle.capture.specs.Reached.{Marks}
 use Rattle.capture.specs.Capture.{Given, Captured}
 use Rattle.capture.specs.Walk.{StartReady}
 use Rattle.capture.specs.Call.{Areas, badCounts, badLengths, Written}
-
-right-length : (l : List ℕ) (n : ℕ) → badLength l n ≡ false → length l ≡ n
-right-length l n e = eqb-true (length l) n (not-false (eqb (length l) n) e)
 
 -- marks of a table's front are marks of the whole table
 marks-front : {P : ℕ → Type 0} {n : ℕ} (part rest : List ℕ) → length part ≡ n → Marks P n part → Marks P n (part ++ rest)
@@ -33,22 +31,17 @@ pub records-within : (n d : ℕ) → badCounts n d ≡ false → d ≤ recordLim
 records-within n d e = ltb-false recordLimit d (neither (ltb moduleLimit n) (ltb recordLimit d) e .1)
 
 module _ (flags first dependency next : List ℕ) (n d : ℕ) (e : badLengths flags first dependency next n d ≡ false) where
-  others : (badLength flags n ≡ false) × ((badLength first n || (badLength dependency (d + 1) || badLength next (d + 1))) ≡ false)
-  others = neither (badLength flags n) (badLength first n || (badLength dependency (d + 1) || badLength next (d + 1))) e
+  others : (length flags ≡ n) × ((badLength first n || (badLength dependency (d + 1) || badLength next (d + 1))) ≡ false)
+  others = first-length (length flags) n _ e
 
   pub flag-lengths : length flags ≡ n
-  flag-lengths = right-length flags n (others .0)
+  flag-lengths = others .0
 
   pub record-tables : badCounts n d ≡ false → RecordTables first dependency next n d
   record-tables counts =
-      let t = neither (badLength first n) (badLength dependency (d + 1) || badLength next (d + 1)) (others .1) in
-      let u = neither (badLength dependency (d + 1)) (badLength next (d + 1)) (t .1) in
-      record {
-        few = records-within n d counts;
-        firsts = right-length first n (t .0);
-        modules = right-length dependency (d + 1) (u .0);
-        nexts = right-length next (d + 1) (u .1);
-      }
+      let t = first-length (length first) n _ (others .1) in
+      let u = first-length (length dependency) (d + 1) _ (t .1) in
+      record { few = records-within n d counts; firsts = t .0; modules = u .0; nexts = right-length (length next) (d + 1) (u .1) }
 
 module _ (g : Given) where
   -- the same, with other counts

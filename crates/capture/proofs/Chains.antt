@@ -9,10 +9,11 @@ use native.Mathlib.Omega.{arith}
 use lib.ListN.{length, getD, set}
 use Rattle.flags.specs.Flags.{eligibleAt}
 use Rattle.records.specs.Chain.{chainFrom}
-use Rattle.records.specs.Marks.{stored}
+use Rattle.lists.specs.Stored.{stored}
 use Rattle.records.proofs.Chain.{chain-in, chain-rest}
 use Rattle.records.proofs.Marking.{Marking, marking-begins, marking-ends, marking-less, marking-turns}
-use Rattle.records.proofs.Stored.{one-stored, unmarked-some, rest-marked}
+use Rattle.records.proofs.ChainMarks.{unmarked-some, rest-marked}
+use Rattle.lists.proofs.Stored.{one-stored}
 use Rattle.records.proofs.Table.{Good}
 use Rattle.capture.specs.Capture.{Eligible}
 use Rattle.capture.specs.Followed.{Followed}

@@ -1,7 +1,5 @@
 -- The laws of the definitions of specs/.
 pub mod Reached
-pub mod Filled
-pub mod Count
 pub mod State
 pub mod Visit
 pub mod Chains
@@ -13,4 +11,4 @@ pub mod Start
 pub mod Ladder
 pub mod Accepted
 pub mod WrittenOnce
-pub mod Storing
+pub mod MarksUndone

@@ -4,8 +4,7 @@ use Prim.Native.Nat.{ℕ, _<_}
 use mathlib.Core.List.{List}
 use mathlib.Core.Logic.{_↔_, _⊎_, inl, inr}
 use mathlib.Core.Path.{_≡_, refl, sym, _∙_, subst}
-use lib.ListN.{length, getD}
-use lib.Seq.{ext-getD}
+use lib.ListN.{getD}
 use Rattle.capture.specs.Reached.{Reached, start, further, Marks}
 
 -- more starts, and modules that name more, reach more
@@ -48,10 +47,6 @@ same-marks {P} {Q} {n} {a} {b} same x y m h = go (x .each m h) (y .each m h)
     go (inl p) (inr q) = absurd (q .1 (same m .0 (p .1)))
     go (inr p) (inl q) = absurd (p .1 (same m .1 (q .1)))
     go (inr p) (inr q) = p .0 ∙ sym (q .0)
-
--- so marks of n modules and no more are one list
-pub marks-equal : {P : ℕ → Type 0} {n : ℕ} (a b : List ℕ) → length a ≡ n → length b ≡ n → Marks P n a → Marks P n b → a ≡ b
-marks-equal a b p q x y = ext-getD 0 a b (p ∙ sym q) (λ m h. same-marks (λ m. (λ z. z, λ z. z)) x y m (subst (λ (k : ℕ). m < k) p h))
 
 -- marks of P are marks of whatever holds of the same modules
 pub marks-of : {P Q : ℕ → Type 0} {n : ℕ} {a : List ℕ} → ((m : ℕ) → P m ↔ Q m) → Marks P n a → Marks Q n a

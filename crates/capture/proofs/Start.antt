@@ -8,13 +8,13 @@ use mathlib.Core.Path.{_≡_, refl, sym, ap, _∙_, subst}
 use native.Mathlib.Omega.{arith}
 use lib.ListN.{length, getD, set, replicate, length-replicate}
 use lib.Seq.{getD-set-same}
-use Rattle.records.proofs.Stored.{zeros}
+use Rattle.lists.proofs.Stored.{zeros, set-cases}
 use Rattle.capture.specs.Reached.{Reached, start, further, Marks}
 use Rattle.capture.specs.Capture.{Given, Eligible, Names, Captured}
 use Rattle.capture.specs.Walk.{WalkState}
 use Rattle.capture.proofs.Reached.{more-starts, reached-all, marks-of}
 use Rattle.capture.proofs.Captured.{captured-walk}
-use Rattle.capture.proofs.State.{at-store, state-none, state-found}
+use Rattle.capture.proofs.State.{state-none, state-found}
 
 -- no module marked but the start
 abbrev pub onlyStart : ℕ → ℕ → List ℕ
@@ -30,13 +30,13 @@ module _ (n from : ℕ) (h : from < n) where
   -- what is marked then
   one-mark : (m : ℕ) → m < n → ((getD (onlyStart n from) m 0 ≡ 1) × (m ≡ from)) ⊎ ((getD (onlyStart n from) m 0 ≡ 0) × (m ≡ from → ⊥))
   one-mark m l =
-      at-store (λ x. ((x ≡ 1) × (m ≡ from)) ⊎ ((x ≡ 0) × (m ≡ from → ⊥))) (replicate n 0) from 1 m in-zeros
+      set-cases (λ x. ((x ≡ 1) × (m ≡ from)) ⊎ ((x ≡ 0) × (m ≡ from → ⊥))) (replicate n 0) from 1 m in-zeros
       (λ q. inl (refl, q))
       (λ q. inr (zeros n m, q))
 
   only-start : (m : ℕ) → getD (onlyStart n from) m 0 ≡ 1 ↔ m ≡ from
   only-start m = (
-    at-store (λ x. x ≡ 1 → m ≡ from) (replicate n 0) from 1 m in-zeros (λ q o. q) (λ q o. let z = zeros n m in absurd (omega arith)),
+    set-cases (λ x. x ≡ 1 → m ≡ from) (replicate n 0) from 1 m in-zeros (λ q o. q) (λ q o. let z = zeros n m in absurd (omega arith)),
     λ q. ap (λ (k : ℕ). getD (onlyStart n from) k 0) q ∙ start-mark,
   )
 

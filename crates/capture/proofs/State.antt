@@ -4,23 +4,15 @@ use mathlib.Core.Bool.{false}
 use mathlib.Core.List.{List}
 use mathlib.Core.Logic.{_⊎_, inl, inr, ⊎-elim}
 use mathlib.Core.Path.{_≡_, refl, sym, ap, _∙_, subst}
-use native.Mathlib.Decide.{ℕ-discrete}
 use native.Mathlib.Nat.{not-suc-le-zero}
 use native.Mathlib.Omega.{arith}
 use lib.Dec.{eqb}
 use lib.ListN.{length, getD, set, length-set, replicate, length-replicate, getD-replicate}
 use lib.Seq.{getD-set-same, getD-set-other}
+use Rattle.lists.proofs.Stored.{set-cases}
+use Rattle.lists.proofs.Count.{count-none, count-room, count-more}
 use Rattle.capture.specs.Capture.{Eligible}
 use Rattle.capture.specs.Walk.{Walk, markedCount, WalkState, found}
-use Rattle.capture.proofs.Count.{count-none, count-room, count-more}
-
--- what stands at j after a store at i
-pub at-store : (P : ℕ → Type 0) (l : List ℕ) (i v j : ℕ) → i < length l → (j ≡ i → P v) → ((j ≡ i → ⊥) → P (getD l j 0)) → P (getD (set l i v) j 0)
-at-store P l i v j h same other = go (ℕ-discrete j i)
-  where
-    go : Dec (j ≡ i) → P (getD (set l i v) j 0)
-    go (yes e) = subst P (sym (ap (λ (k : ℕ). getD (set l i v) k 0) e ∙ getD-set-same l i v 0 h)) (same e)
-    go (no e) = subst P (sym (getD-set-other l i j v 0 e)) (other e)
 
 -- nothing is marked
 pub state-none : (flags queue : List ℕ) (n : ℕ) → n ≤ length queue → WalkState flags n (record { marks = replicate n 0; queue = queue; tail = 0 })
@@ -52,14 +44,14 @@ module _ (flags : List ℕ) (n : ℕ) (w : Walk) (s : WalkState flags n w) (k : 
 
   -- what was marked stays marked
   pub kept-mark : (m : ℕ) → getD (w .marks) m 0 ≡ 1 → getD (set (w .marks) k 1) m 0 ≡ 1
-  kept-mark m o = at-store (λ x. x ≡ 1) (w .marks) k 1 m in-marks (λ q. refl) (λ q. o)
+  kept-mark m o = set-cases (λ x. x ≡ 1) (w .marks) k 1 m in-marks (λ q. refl) (λ q. o)
 
   pub kept-place : (i : ℕ) → i < w .tail → getD (set (w .queue) (w .tail) k) i 0 ≡ getD (w .queue) i 0
   kept-place i l = getD-set-other (w .queue) (w .tail) i k 0 (λ q. omega arith)
 
   -- who is marked now
   pub now-marked : (m : ℕ) → getD (set (w .marks) k 1) m 0 ≡ 1 → (m ≡ k) ⊎ (getD (w .marks) m 0 ≡ 1)
-  now-marked m o = at-store (λ x. x ≡ 1 → (m ≡ k) ⊎ (getD (w .marks) m 0 ≡ 1)) (w .marks) k 1 m in-marks (λ q z. inl q) (λ q z. inr z) o
+  now-marked m o = set-cases (λ x. x ≡ 1 → (m ≡ k) ⊎ (getD (w .marks) m 0 ≡ 1)) (w .marks) k 1 m in-marks (λ q z. inl q) (λ q z. inr z) o
 
   pub state-found : Eligible flags k → WalkState flags n (found w k)
   unfolding markedCount
@@ -67,9 +59,9 @@ module _ (flags : List ℕ) (n : ℕ) (w : Walk) (s : WalkState flags n w) (k : 
       record {
         mark-bytes = simp length-set (s .mark-bytes);
         room = simp length-set (s .room);
-        byte = λ m l. at-store (λ x. (x ≡ 1) ⊎ (x ≡ 0)) (w .marks) k 1 m in-marks (λ q. inl refl) (λ q. s .byte m l);
+        byte = λ m l. set-cases (λ x. (x ≡ 1) ⊎ (x ≡ 0)) (w .marks) k 1 m in-marks (λ q. inl refl) (λ q. s .byte m l);
         eligible-ones = λ m l o. ⊎-elim (λ q. subst (Eligible flags) (sym q) el) (λ z. s .eligible-ones m l z) (now-marked m o);
-        queued = λ i l. at-store (λ x. (x < n) × (getD (set (w .marks) k 1) x 0 ≡ 1)) (w .queue) (w .tail) k i state-room (λ q. (h, is-marked)) (λ q. old-queued i (omega arith));
+        queued = λ i l. set-cases (λ x. (x < n) × (getD (set (w .marks) k 1) x 0 ≡ 1)) (w .queue) (w .tail) k i state-room (λ q. (h, is-marked)) (λ q. old-queued i (omega arith));
         listed = λ m l o. ⊎-elim (λ q. (w .tail, omega arith, getD-set-same (w .queue) (w .tail) k 0 state-room ∙ sym q)) (λ z. old-place m l z) (now-marked m o);
         count = omega (arith, s .count, more-marked);
       }

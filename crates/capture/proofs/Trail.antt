@@ -9,11 +9,13 @@ use native.Mathlib.Omega.{arith}
 use lib.ListN.{length, getD, set, take, replicate, length-set, length-replicate}
 use lib.Seq.{getD-take, length-take-le}
 use Rattle.records.specs.Chain.{chainOf, dependencies}
-use Rattle.records.specs.Marks.{stored, ChainMarks}
+use Rattle.records.specs.Marks.{ChainMarks}
+use Rattle.lists.specs.Stored.{stored}
 use Rattle.records.specs.Bad.{RecordTables}
 use Rattle.records.proofs.Chain.{chain-in, chain-first}
 use Rattle.records.proofs.Known.{marks-none, only-zero}
-use Rattle.records.proofs.Stored.{stored-either, stored-kept, stored-length, stored-on, chain-marked}
+use Rattle.records.proofs.ChainMarks.{chain-marked}
+use Rattle.lists.proofs.Stored.{stored-either, stored-kept, stored-length, stored-on}
 use Rattle.records.proofs.Table.{Good, dependencies-in}
 use Rattle.capture.specs.Capture.{Eligible}
 use Rattle.capture.specs.Followed.{unfollowed, Followed, ForgetAllReady}

@@ -10,9 +10,9 @@ use native.Mathlib.Omega.{arith}
 use lib.ListN.{length, getD, set, replicate, length-set, length-replicate}
 use lib.Seq.{ext-getD, getD-set-same}
 use Rattle.records.specs.Chain.{chainFrom, chainOf, ended}
-use Rattle.records.specs.Marks.{stored}
+use Rattle.lists.specs.Stored.{stored}
 use Rattle.records.proofs.Chain.{along, chain-in, chain-next, chain-rest, rest-ended}
-use Rattle.records.proofs.Stored.{zeros, one-stored, stored-either, stored-kept, stored-length, stored-on, stored-same}
+use Rattle.lists.proofs.Stored.{zeros, one-stored, stored-either, stored-kept, stored-length, stored-on, stored-same}
 use Rattle.capture.specs.Followed.{unfollowed, Undoing, ForgetReady, AllFollowed}
 
 -- ---- one chain

@@ -14,7 +14,7 @@ use Rattle.records.proofs.Table.{Good, dependencies-in}
 use Rattle.capture.specs.Reached.{Reached, start, further, Marks}
 use Rattle.capture.specs.Capture.{Eligible, Names}
 use Rattle.capture.specs.Walk.{Walk, markedCount, WalkState, visited}
-use Rattle.capture.proofs.Count.{count-le}
+use Rattle.lists.proofs.Count.{count-le}
 use Rattle.capture.proofs.Reached.{reached-all}
 use Rattle.capture.proofs.Visit.{Visited, visit-all}
 

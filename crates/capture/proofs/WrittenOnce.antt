@@ -47,4 +47,4 @@ module _ (g : Given) (before : Areas) (first second : CaptureAnswer) (a b : Area
     where
       go : (o : Outcome Unit) → captureOutcome g before ≡ o → a ≡ b
       go (refused n) e = x .refusal n e ∙ sym (y .refusal n e)
-      go (accepted tt) e = written-once g before a b (x .answered e) (y .answered e)
+      go (accepted tt) e = written-once g before a b (x .answered tt e) (y .answered tt e)

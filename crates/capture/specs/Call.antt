@@ -5,8 +5,8 @@ use mathlib.Core.List.{List, [], _∷_, _++_}
 use mathlib.Core.Path.{_≡_}
 use lib.Dec.{ltb, leb}
 use lib.ListN.{length, drop, replicate}
-use Rattle.refusal.specs.Outcome
 use Rattle.refusal.specs.Outcome.{Outcome, refused, accepted, Test, test, outcome}
+use Rattle.refusal.specs.Call.{Call, whole}
 use Rattle.refusal.specs.Counts.{moduleLimit, recordLimit, badLength}
 use Rattle.flags.specs.Flags.{badFlags}
 use Rattle.records.specs.Bad.{badRecords}
@@ -48,10 +48,6 @@ unfoldable pub captureTests : Given → Areas → List Test
 unfolding inputTests areaTests
 captureTests g a = inputTests (g .n) (g .d) (g .from) (g .flags) (g .first) (g .dependency) (g .next) ++ areaTests (g .n) a
 
--- the number of a refusal, and 0 where there is none
-abbrev pub numberOf : Outcome Unit → ℕ
-numberOf o = Outcome.numberOf o
-
 -- refused or done; document 01 gives no value for a capture that is done, so the answer carries none
 unfoldable pub captureOutcome : Given → Areas → Outcome Unit
 unfolding captureTests outcome
@@ -70,7 +66,5 @@ pub record Written (g : Given) (before after : Areas) : Type 0 where
   pub cleared : after .scratch ≡ replicate (length (before .scratch)) 0
 
 -- the call: its answer, and the content of the lent areas after it
-pub record CaptureCall (g : Given) (answer : CaptureAnswer) (before after : Areas) : Type 0 where
-  pub number : outcomeOf answer ≡ captureOutcome g before
-  pub refusal : (n : ℕ) → captureOutcome g before ≡ refused n → after ≡ before
-  pub answered : captureOutcome g before ≡ accepted tt → Written g before after
+abbrev pub CaptureCall : Given → CaptureAnswer → Areas → Areas → Type 0
+CaptureCall g answer before after = Call whole (captureOutcome g before) (outcomeOf answer) before after (λ _. Written g before after)

@@ -3,7 +3,7 @@ ghost use mathlib.Core.Path.{_≡_};
 ghost use Prim.Native.Nat.{_-_};
 ghost use lib.ListN.{length};
 ghost use Rattle.records.specs.Chain.{chainFrom};
-ghost use Rattle.records.specs.Marks.{stored};
+ghost use Rattle.lists.specs.Stored.{stored};
 ghost use Rattle.capture.specs.Followed.{unfollowed, ForgetReady, ForgetAllReady};
 
 // Undoes the marks of a chain's records, up to its end or to one whose mark is undone already.

@@ -1,19 +1,19 @@
 // The capture of a module: what it reaches along its dependencies through eligible modules.
-pub mod clear;
 pub mod forget;
-pub mod store;
 pub mod walk;
 
 use index::ModuleIdx;
+use lists::fill::clear_bytes;
+use lists::fill::clear_words;
 ghost use mathlib.Core.Path.{_≡_};
 ghost use Prim.Native.Nat.{_-_, _≤_};
 ghost use lib.ListN.{length};
 ghost use Rattle.refusal.specs.Counts.{recordLimit};
-ghost use Rattle.refusal.specs.Outcome.{outcome};
+ghost use Rattle.refusal.specs.Outcome.{firstNumber};
 ghost use Rattle.capture.specs.Reached.{Marks};
 ghost use Rattle.capture.specs.Capture.{Captured};
 ghost use Rattle.capture.specs.Walk.{StartReady};
-ghost use Rattle.capture.specs.Call.{badCounts, badLengths, inputTests, numberOf, CaptureCall};
+ghost use Rattle.capture.specs.Call.{badCounts, badLengths, inputTests, CaptureCall};
 
 pub enum CaptureAnswer {
     Refused(u32),
@@ -65,10 +65,20 @@ fn capture_from(
     marks: &mut [u8],
     queue: &mut [u32],
 )
-    requires { ⌜ StartReady (now flags) (now first) (now dependency) (now next) (length (now flags)) (length (now next) - 1) (from .0) (now marks) (now queue) ⌝ }
-    ensures { λ _. ⌜ Marks (Captured (record { n = length (now (flags .entry)); d = length (now (next .entry)) - 1; recursive = recursive; from = from .0; flags = now (flags .entry); first = now (first .entry); dependency = now (dependency .entry); next = now (next .entry) })) (length (now (flags .entry))) (now (marks .exit)) ⌝ }
+    requires { ⌜ StartReady (now flags) (now first) (now dependency) (now next) (length (now flags)) (length (now next) - 1)
+        (from .0) (now marks) (now queue) ⌝ }
+    ensures { λ _. ⌜ Marks (Captured (record {
+      n = length (now (flags .entry));
+      d = length (now (next .entry)) - 1;
+      recursive = recursive;
+      from = from .0;
+      flags = now (flags .entry);
+      first = now (first .entry);
+      dependency = now (dependency .entry);
+      next = now (next .entry);
+    })) (length (now (flags .entry))) (now (marks .exit)) ⌝ }
 {
-    clear::clear_bytes(marks);
+    clear_bytes(marks);
     if !flags::is_eligible_at(flags, from) {
         return;
     }
@@ -100,7 +110,8 @@ fn input_number(
     dependency: &[u32],
     next: &[u32],
 ) -> u32
-    ensures { λ r. ⌜ r ≡ numberOf (outcome (inputTests n d (from .0) (now (flags .entry)) (now (first .entry)) (now (dependency .entry)) (now (next .entry))) tt) ⌝ }
+    ensures { λ r. ⌜ r ≡ firstNumber (inputTests n d (from .0)
+        (now (flags .entry)) (now (first .entry)) (now (dependency .entry)) (now (next .entry))) ⌝ }
 {
     if bad_counts(n, d) {
         return refusal::COUNT;
@@ -133,7 +144,22 @@ pub fn add_module_and_dependencies_to_group_recursively(
     marks: &mut [u8],
     scratch: &mut [u32],
 ) -> CaptureAnswer
-    ensures { λ r. ⌜ CaptureCall (record { n = n; d = d; recursive = recursive; from = from .0; flags = now (flags .entry); first = now (first .entry); dependency = now (dependency .entry); next = now (next .entry) }) r (record { marks = now (marks .entry); scratch = now (scratch .entry) }) (record { marks = now (marks .exit); scratch = now (scratch .exit) }) ⌝ }
+    ensures { λ r. ⌜ CaptureCall (record {
+      n = n;
+      d = d;
+      recursive = recursive;
+      from = from .0;
+      flags = now (flags .entry);
+      first = now (first .entry);
+      dependency = now (dependency .entry);
+      next = now (next .entry);
+    }) r (record {
+      marks = now (marks .entry);
+      scratch = now (scratch .entry);
+    }) (record {
+      marks = now (marks .exit);
+      scratch = now (scratch .exit);
+    }) ⌝ }
 {
     let number = input_number(n, d, from, flags, first, dependency, next);
     if number != 0 {
@@ -155,6 +181,6 @@ pub fn add_module_and_dependencies_to_group_recursively(
         &mut marks[..n],
         scratch,
     );
-    clear::clear_words(scratch);
+    clear_words(scratch);
     CaptureAnswer::Done
 }

@@ -6,7 +6,7 @@ ghost use mathlib.Core.Path.{_≡_};
 ghost use Prim.Native.Nat.{_-_};
 ghost use lib.ListN.{length};
 ghost use Rattle.records.specs.Chain.{chainOf, dependencies};
-ghost use Rattle.records.specs.Marks.{stored};
+ghost use Rattle.lists.specs.Stored.{stored};
 ghost use Rattle.capture.specs.Followed.{unfollowed};
 ghost use Rattle.capture.specs.Walk.{WalkReady, Walked, FollowReady, VisitReady, visited};
 
@@ -19,7 +19,8 @@ pub fn visit(
     named: ModuleIdx,
 ) -> usize
     requires { ⌜ VisitReady (now flags) (record { marks = now marks; queue = now queue; tail = tail }) (named .0) ⌝ }
-    ensures { λ r. ⌜ visited (now (flags .entry)) (record { marks = now (marks .entry); queue = now (queue .entry); tail = tail }) (named .0) ≡ record { marks = now (marks .exit); queue = now (queue .exit); tail = r } ⌝ }
+    ensures { λ r. ⌜ visited (now (flags .entry)) (record { marks = now (marks .entry); queue = now (queue .entry); tail = tail }) (named .0)
+        ≡ record { marks = now (marks .exit); queue = now (queue .exit); tail = r } ⌝ }
 {
     if !flags::is_eligible_at(flags, named) {
         return tail;

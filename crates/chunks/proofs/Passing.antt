@@ -7,12 +7,12 @@ use lib.ListN.{length, take, getD, replicate, length-replicate}
 use Rattle.lists.specs.Range.{range}
 use Rattle.lists.proofs.KeepLength.{keep-le}
 use Rattle.lists.proofs.Range.{length-range}
-use Rattle.refusal.specs.Outcome.{Outcome, refused, accepted, outcome}
+use Rattle.refusal.specs.Outcome.{refused, accepted, outcome, firstNumber}
+use Rattle.refusal.proofs.Calls.{refuses-call, accepts-call}
 use Rattle.grouping.specs.Given.{Given, Areas, isListed}
 use Rattle.grouping.specs.ChunkList.{chunkList}
 use Rattle.grouping.specs.Conditions.{scratchNeed, stateTests}
 use Rattle.grouping.specs.Call.{chunksTests, chunksOutcome, ChunksCall}
-use Rattle.conditions.specs.Ladder.{firstNumber}
 use Rattle.conditions.specs.Names.{AnswersWithin}
 use Rattle.conditions.proofs.CountsLeft.{counts-passed}
 use Rattle.conditions.proofs.TablesLeft.{answers-within}
@@ -39,12 +39,7 @@ low (suc n) (suc m) = low n m
 refuses : (b : Given) (a : Areas) (number : ℕ) → outcome (chunksTests scratchNeed b a) (length (chunkList b)) ≡ refused number
     → ChunksCall scratchNeed b (refused number) a a
 unfolding chunksOutcome
-refuses b a number e =
-    record {
-      number = sym e;
-      refusal = λ n f. refl;
-      answered = λ count f. let z : _≡_ {A = ℕ} 0 1 = cc in absurd (omega arith);
-    }
+refuses b a number e = refuses-call a e
 
 module _ (b : Given) (a : Areas) {by-order rank : List ℕ} where
   -- a condition of the input applies
@@ -99,9 +94,4 @@ module _ (b : Given) (a : Areas) {by-order rank : List ℕ} where
 
       pub answers : (made : ℕ) (after : Areas) → Ran b 0 made a after → ChunksCall scratchNeed b (accepted made) a after
       unfolding chunksOutcome
-      answers made after ran =
-          record {
-            number = ap accepted (ran .chunks) ∙ sym (accepted-both a (length (chunkList b)) t none);
-            refusal = λ n f. let z : _≡_ {A = ℕ} 0 1 = cc in absurd (omega arith);
-            answered = λ m f. ran .areas;
-          }
+      answers made after ran = accepts-call (accepted-both a (length (chunkList b)) t none ∙ ap accepted (sym (ran .chunks))) (λ _. ran .areas)

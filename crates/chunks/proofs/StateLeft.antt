@@ -16,8 +16,8 @@ use Rattle.grouping.specs.Conditions.{
   scratchNeed,
   stateTests,
 }
-use Rattle.conditions.specs.Ladder.{firstNumber}
-use Rattle.conditions.proofs.Steps.{left}
+use Rattle.refusal.specs.Outcome.{firstNumber}
+use Rattle.refusal.proofs.Ladder.{left}
 use Rattle.run.specs.Ran.{RunRoom}
 
 module _ (n : ℕ) where

@@ -6,5 +6,5 @@ pub mod Marks
 pub mod MetNames
 pub mod PairCount
 pub mod RowCount
-pub mod Steps
+pub mod InputParts
 pub mod TablesLeft

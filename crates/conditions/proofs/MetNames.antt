@@ -13,7 +13,7 @@ use lib.ListN.{length, getD, set, length-set}
 use lib.Seq.{getD-set-same, getD-set-other}
 use Rattle.lists.specs.Below.{anyBelow, countBelow}
 use Rattle.lists.proofs.Below.{count-same}
-use Rattle.capture.proofs.Count.{count-none, count-more}
+use Rattle.lists.proofs.Count.{count-none, count-more}
 use Rattle.conditions.specs.Names.{firstMet, marked, metIn, namesIn, RowReady, RowCounted}
 use Rattle.conditions.proofs.Marks.{no-name, met-before, met-first, left-unmarked, now-marked}
 

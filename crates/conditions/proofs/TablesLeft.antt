@@ -1,13 +1,14 @@
 -- What condition 2 leaves: tables of the lengths that the counts imply; and with 1 and 10, answers whose pairs can be counted.
 use Prim.Native.Nat.{ℕ, _+_, _*_, _≤_}
-use mathlib.Core.Bool.{Bool, false, _||_, not}
+use mathlib.Core.Bool.{false, _||_, not}
 use mathlib.Core.Path.{_≡_}
 use native.Mathlib.Omega.{arith}
-use borrow.Author.Tests.{leb-false, eqb-true, not-false}
+use borrow.Author.Tests.{leb-false}
 use lib.Dec.{leb, eqb}
 use lib.ListN.{length, getD}
 use Rattle.lists.proofs.Below.{neither, none-of}
 use Rattle.refusal.specs.Counts.{recordLimit}
+use Rattle.refusal.proofs.Lengths.{first-length as next, right-length as last}
 use Rattle.records.specs.Bad.{RecordTables}
 use Rattle.options.specs.Tables.{GroupTables}
 use Rattle.grouping.specs.Given.{Given}
@@ -29,12 +30,6 @@ pub record TablesPassed (b : Given) : Type 0 where
   pub answers : length (b .variant .answers) ≡ b .variant .g * b .shared .n
 
 -- one length more that is right, and the tests after it
-next : (l n : ℕ) (t : Bool) → (not (eqb l n) || t) ≡ false → (l ≡ n) × (t ≡ false)
-next l n t e = let s = neither (not (eqb l n)) t e in (eqb-true l n (not-false (eqb l n) (s .0)), s .1)
-
-last : (l n : ℕ) → not (eqb l n) ≡ false → l ≡ n
-last l n e = eqb-true l n (not-false (eqb l n) e)
-
 has-groups : (t : GroupTables) (g : ℕ) → badGroupTable t g ≡ false → HasGroups t g
 unfolding badGroupTable
 has-groups t g e i h =

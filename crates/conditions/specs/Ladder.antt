@@ -3,7 +3,7 @@ use Prim.Native.Nat.{ℕ}
 use mathlib.Core.List.{List, [], _∷_}
 use mathlib.Core.Path.{_≡_}
 use lib.ListN.{length}
-use Rattle.refusal.specs.Outcome.{Test, test, outcome, numberOf}
+use Rattle.refusal.specs.Outcome.{Test, test}
 use Rattle.grouping.specs.Given.{Given, Areas}
 use Rattle.grouping.specs.Conditions.{countAbove, badTable, badId, badTotal, badDependency, badBit, badAnswer, pairs}
 use Rattle.conditions.specs.declared.ModuleLengths.{ModuleLengths}
@@ -11,11 +11,6 @@ use Rattle.conditions.specs.declared.RecordLengths.{RecordLengths}
 use Rattle.conditions.specs.declared.GroupLengths.{GroupLengths}
 use Rattle.conditions.specs.declared.AreaLengths.{AreaLengths}
 use Rattle.conditions.specs.HandsIn.{HandsCounts, HandsLengths, areaLengths}
-
--- the number of the first condition that applies, and 0 if none does
-unfoldable pub firstNumber : List Test → ℕ
-unfolding outcome
-firstNumber tests = numberOf (outcome {A = Unit {0}} tests tt)
 
 -- 1 to 3: counts, lengths and ids
 unfoldable pub shapeTests : Given → List Test

@@ -11,7 +11,8 @@ ghost use Rattle.records.specs.Bad.{RecordTables};
 ghost use Rattle.grouping.specs.Given.{Given, Areas};
 ghost use Rattle.grouping.specs.Conditions.{scratchNeed, stateTests};
 ghost use Rattle.conditions.specs.HandsIn.{pairLimit, HandsSizes, HandsRecords, HandsBits, HandsAnswers};
-ghost use Rattle.conditions.specs.Ladder.{firstNumber, shapeTests, treeTests, valueTests, HandsShape, HandsAreas};
+ghost use Rattle.conditions.specs.Ladder.{shapeTests, treeTests, valueTests, HandsShape, HandsAreas};
+ghost use Rattle.refusal.specs.Outcome.{firstNumber};
 
 // 1 to 3: counts, lengths and ids.
 pub fn shape_number(

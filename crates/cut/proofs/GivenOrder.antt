@@ -1,30 +1,17 @@
 -- Modules in the order given: each has an id and a size that a double holds, and the cut at a place is the definition's.
-use Prim.Native.Nat.{ℕ, _+_, _-_, _≤_, _<_}
+use Prim.Native.Nat.{ℕ, _-_, _≤_, _<_}
 use mathlib.Core.List.{List, []}
 use mathlib.Core.Path.{_≡_, sym, ap, ap₂, _∙_}
-use native.Mathlib.Nat.{zero-add}
 use native.Mathlib.Omega.{arith}
 use lib.Ieee.{Float}
-use lib.ListN.{length, getD, take, drop, length-map}
-use Rattle.lists.specs.Range.{range}
-use Rattle.lists.proofs.Map.{getD-map-below}
-use Rattle.lists.proofs.Range.{length-range, getD-range}
+use lib.ListN.{length, getD, take, drop}
 use Rattle.whole.specs.Double.{sumF64}
-use Rattle.ids.specs.Parts.{idAt, idsOf}
+use Rattle.ids.specs.Parts.{idsOf}
+use Rattle.ids.proofs.IdParts.{ids-at}
 use Rattle.similarity.specs.Similarity.{similarity}
 use Rattle.cut.specs.Candidate.{candidateAt}
 use Rattle.cut.specs.Order.{alike, NamedPair, GivenOrder}
 use Rattle.cut.specs.declared.candidate.Candidate.{Candidate}
-
-pub length-given : (n : ℕ) (bytes offsets : List ℕ) → length (idsOf n bytes offsets) ≡ n
-unfolding idsOf
-length-given n bytes offsets = length-map (range 0 n) (idAt bytes offsets) ∙ length-range 0 n
-
-id-given : (n : ℕ) (bytes offsets : List ℕ) (i : ℕ) → i < n → getD (idsOf n bytes offsets) i [] ≡ idAt bytes offsets i
-unfolding idsOf
-id-given n bytes offsets i h =
-    let within : i < length (range 0 n) = rw length-range h in
-    getD-map-below (idAt bytes offsets) (range 0 n) i [] 0 within ∙ ap (idAt bytes offsets) (getD-range 0 n i 0 h ∙ zero-add i)
 
 module _ (bytes offsets sizes : List ℕ) (i : ℕ) (from : 1 ≤ i) (inside : i < length sizes) where
   pub pair-given : GivenOrder bytes offsets sizes → NamedPair bytes offsets (i - 1) i
@@ -37,7 +24,7 @@ module _ (bytes offsets sizes : List ℕ) (i : ℕ) (from : 1 ≤ i) (inside : i
   unfolding candidateAt
   place-given left right p q =
       let place : ℕ → Float → Float → Candidate = λ s l r. record { index = i; similarity = s; left = l; right = r } in
-      let last = id-given (length sizes) bytes offsets (i - 1) (omega arith) in
-      let first = id-given (length sizes) bytes offsets i inside in
+      let last = ids-at (length sizes) bytes offsets (i - 1) (omega arith) in
+      let first = ids-at (length sizes) bytes offsets i inside in
       ap (λ (s : ℕ). place s left right) (sym (ap₂ similarity last first))
       ∙ ap₂ (place (similarity (getD (idsOf (length sizes) bytes offsets) (i - 1) []) (getD (idsOf (length sizes) bytes offsets) i []))) p q

@@ -1,5 +1,5 @@
 -- The sizes and the ids of modules in an order of their own: each module of the order has a size that a double holds.
-use Prim.Native.Nat.{ℕ, suc, _^_, _≤_, _<_}
+use Prim.Native.Nat.{ℕ, _^_, _≤_, _<_}
 use mathlib.Core.List.{List, []}
 use mathlib.Core.Path.{_≡_}
 use native.Mathlib.Omega.{arith}
@@ -9,14 +9,11 @@ use lib.Ieee.{binary64, inFloat}
 use lib.ListN.{length, getD, length-map}
 use Rattle.lists.specs.Sum.{sum}
 use Rattle.lists.proofs.Map.{getD-map-below}
-use Rattle.lists.proofs.Sum.{sum-take-suc, sum-take-le}
+use Rattle.lists.proofs.SumChanged.{one-of-sum}
 use Rattle.ids.specs.Parts.{idAt}
 use Rattle.cut.specs.Order.{sizesIn, idsIn, Sized}
 
 -- ---- sizes
-
-one-of-sum : (l : List ℕ) (i : ℕ) → i < length l → getD l i 0 ≤ sum l
-one-of-sum l i h = omega (arith, sum-take-suc l i h, sum-take-le (suc i) l)
 
 pub length-sizes : (sizes order : List ℕ) → length (sizesIn sizes order) ≡ length order
 length-sizes sizes order = length-map order (λ k. getD sizes k 0)

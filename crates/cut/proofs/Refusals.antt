@@ -7,8 +7,9 @@ use mathlib.Core.Path.{_≡_, refl}
 use borrow.Author.Tests.{lt-ltb, le-ltb, eq-eqb, ne-eqb}
 use lib.Ieee.{Float, isNan}
 use lib.ListN.{length}
-use Rattle.refusal.specs.Outcome.{Outcome, refused, accepted, test, outcome, ascending, Applies}
+use Rattle.refusal.specs.Outcome.{Outcome, refused, accepted, test, ascending, Applies}
 use Rattle.refusal.specs.Counts.{moduleLimit}
+use Rattle.refusal.proofs.Ladder.{Row, none-applies, applies, passes, row}
 use Rattle.refusal.proofs.Lowest.{lowest}
 use Rattle.whole.specs.Total.{totalExceeds}
 use Rattle.ids.specs.Parts.{idsOf}
@@ -40,43 +41,47 @@ module _ (n : ℕ) (bytes offsets sizes : List ℕ) (minimum maximum : Float) wh
 
   -- ---- the ladder of tests
 
-  pub too-many : moduleLimit < n → call ≡ refused 1
+  abbrev answer : Chosen
+  answer = cutOf (idsOf n bytes offsets) sizes minimum maximum
+
+  by : {o : Outcome Chosen} → Row answer (cutTests n bytes offsets sizes minimum maximum) o → call ≡ o
   unfolding cutCall
-  too-many h = rw (lt-ltb _ _ h)
+  by r = row r
+
+  pub too-many : moduleLimit < n → call ≡ refused 1
+  unfolding cutTests
+  too-many h = by (applies (lt-ltb _ _ h))
 
   pub offsets-missing : n ≤ moduleLimit → (length offsets ≡ n + 1 → ⊥) → call ≡ refused 2
-  unfolding cutCall
-  offsets-missing few h = rw (le-ltb _ _ few, ne-eqb _ _ h)
+  unfolding cutTests
+  offsets-missing few h = by (passes (le-ltb _ _ few) (applies (rw (ne-eqb _ _ h))))
 
   pub sizes-missing : n ≤ moduleLimit → (length sizes ≡ n → ⊥) → call ≡ refused 2
-  unfolding cutCall
-  sizes-missing few h = rw (le-ltb _ _ few, ne-eqb _ _ h, or-true)
+  unfolding cutTests
+  sizes-missing few h = by (passes (le-ltb _ _ few) (applies (rw (ne-eqb _ _ h, or-true))))
 
   pub ids-bad : n ≤ moduleLimit → length offsets ≡ n + 1 → length sizes ≡ n → badOffsets idLimit (length bytes) offsets ≡ true → call ≡ refused 3
-  unfolding cutCall
-  ids-bad few o s h = rw (le-ltb _ _ few, eq-eqb _ _ o, eq-eqb _ _ s, h)
+  unfolding cutTests
+  ids-bad few o s h = by (passes (le-ltb _ _ few) (passes (rw (eq-eqb _ _ o, eq-eqb _ _ s)) (applies h)))
 
   module _ (p : Passed n bytes offsets sizes) where
-    passes-three : call ≡ outcome (test 6 (totalExceeds sizes) ∷ test 8 (isNan minimum || isNan maximum) ∷ []) (cutOf (idsOf n bytes offsets) sizes minimum maximum)
-    unfolding cutCall
-    passes-three = rw (le-ltb _ _ (p .few), eq-eqb _ _ (p .all-offsets), eq-eqb _ _ (p .all-sizes), p .good)
+    past-three : {o : Outcome Chosen} → Row answer (test 6 (totalExceeds sizes) ∷ test 8 (isNan minimum || isNan maximum) ∷ []) o → call ≡ o
+    unfolding cutTests
+    past-three r =
+        by (passes (le-ltb _ _ (p .few)) (passes (rw (eq-eqb _ _ (p .all-offsets), eq-eqb _ _ (p .all-sizes))) (passes (p .good) r)))
 
     pub total-too-large : totalExceeds sizes ≡ true → call ≡ refused 6
-    unfolding outcome
-    total-too-large h = rw (passes-three, h)
+    total-too-large h = past-three (applies h)
 
     pub minimum-nan : totalExceeds sizes ≡ false → isNan minimum ≡ true → call ≡ refused 8
-    unfolding outcome
-    minimum-nan small h = rw (passes-three, small, h)
+    minimum-nan small h = past-three (passes small (applies (rw h)))
 
     pub maximum-nan : totalExceeds sizes ≡ false → isNan maximum ≡ true → call ≡ refused 8
-    unfolding outcome
-    maximum-nan small h = rw (passes-three, small, h, or-true)
+    maximum-nan small h = past-three (passes small (applies (rw (h, or-true))))
 
   -- none of the numbers applies
-  pub accepts : Accepted n bytes offsets sizes minimum maximum → call ≡ accepted (cutOf (idsOf n bytes offsets) sizes minimum maximum)
-  unfolding outcome
-  accepts p = rw (passes-three (p .tables), p .small, p .minimum-given, p .maximum-given)
+  pub accepts : Accepted n bytes offsets sizes minimum maximum → call ≡ accepted answer
+  accepts p = past-three (p .tables) (passes (p .small) (passes (rw (p .minimum-given, p .maximum-given)) none-applies))
 
   -- a refusal has the lowest number that applies
   pub lowest-number : (k : ℕ) → call ≡ refused k

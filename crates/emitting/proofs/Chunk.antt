@@ -4,10 +4,11 @@ use mathlib.Core.List.{List, [], _∷_}
 use mathlib.Core.Path.{_≡_, refl, ap, _∙_}
 use native.Mathlib.Numerals.{add-one}
 use native.Mathlib.Omega.{arith}
-use lib.ListN.{length, getD, set, take, drop, length-append, length-take, length-drop, length-set}
+use lib.ListN.{length, getD, set, take, drop, length-take, length-set}
 use lib.Seq.{getD-take, getD-drop}
-use Rattle.bitset.specs.declared.entries.BitSet.{BitSet}
-use Rattle.emitting.specs.Emitted.{Work, Emission, Room, bitsOfChunk, withNumber, withWords, withChunk}
+use Rattle.bitset.specs.Rows.{withRow}
+use Rattle.bitset.proofs.Rows.{length-with-row}
+use Rattle.emitting.specs.Emitted.{Work, Emission, Room, bitsOfChunk, withNumber, withChunk}
 
 -- what is written field by field is the chunk
 pub record Written (bits : List ℕ) (number at : ℕ) (e : Emission) (before after : Work) : Type 0 where
@@ -15,7 +16,7 @@ pub record Written (bits : List ℕ) (number at : ℕ) (e : Emission) (before af
   pub group : after .group-of ≡ set (before .group-of) at (e .head .group)
   pub name : after .name-of ≡ set (before .name-of) at (e .head .name)
   pub size : after .size-of ≡ set (before .size-of) at (e .size)
-  pub words : after .bits-of ≡ withWords (before .bits-of) at (bitsOfChunk bits (e .head) (e .modules))
+  pub words : after .bits-of ≡ withRow (before .bits-of) at (bitsOfChunk bits (e .head) (e .modules))
 
 pub written-chunk : {bits : List ℕ} {number at : ℕ} {e : Emission} {before after : Work} → Written bits number at e before after
     → after ≡ withChunk bits number at e before
@@ -54,10 +55,6 @@ unfolding withNumber
 number-length [] number l = refl
 number-length (m ∷ modules) number l = number-length modules number (set l m number) ∙ length-set l m number
 
-pub words-length : (table : List ℕ) (at : ℕ) (s : BitSet) → 4 * at + 4 ≤ length table → length (withWords table at s) ≡ length table
-unfolding withWords
-words-length table at s h = simp (length-append, length-take, length-drop) (omega arith)
-
 -- a chunk with room for its record keeps the lengths of all areas
 pub room-kept : (bits : List ℕ) (number at : ℕ) (e : Emission) (w : Work) → 4 * at + 4 ≤ length (w .bits-of) → SameLengths (withChunk bits number at e w) w
 unfolding withChunk
@@ -66,7 +63,7 @@ room-kept bits number at e w h = record {
   group-of = length-set (w .group-of) at (e .head .group);
   name-of = length-set (w .name-of) at (e .head .name);
   size-of = length-set (w .size-of) at (e .size);
-  bits-of = words-length (w .bits-of) at (bitsOfChunk bits (e .head) (e .modules)) h;
+  bits-of = length-with-row (w .bits-of) at (bitsOfChunk bits (e .head) (e .modules)) h;
 }
 
 -- there is room for a part of a list in areas of the same lengths

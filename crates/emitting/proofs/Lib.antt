@@ -1,5 +1,4 @@
 -- The laws of the definitions of specs/.
-pub mod Stores
 pub mod OneMore
 pub mod Chunk
 pub mod Turn

@@ -9,7 +9,7 @@ use lib.Dec.{eqb}
 use lib.ListN.{length, getD, set, length-set}
 use lib.Seq.{getD-set-same, getD-set-other}
 use Rattle.lists.specs.Elem.{elem}
-use Rattle.lists.proofs.Elem.{elem-mem}
+use Rattle.lists.proofs.Elem.{elem-mem, not-elem}
 use Rattle.lists.proofs.Sort.{Pairs, none, more}
 use Rattle.emitting.specs.Emitted.{Work, Emission, withNumber, withChunk, withChunks}
 use Rattle.emitting.specs.Areas.{numberOf}
@@ -37,13 +37,6 @@ Apart e f = (m : ℕ) → List·Memᴰ m (e .modules) → List·Memᴰ m (f .mod
 
 abbrev modulesOf : List Emission → List (List ℕ)
 modulesOf es = map (λ e. e .modules) es
-
-not-elem : (m : ℕ) (l : List ℕ) → (List·Memᴰ m l → ⊥) → elem m l ≡ false
-not-elem m l h = go (elem m l) refl
-  where
-    go : (b : Bool) → elem m l ≡ b → elem m l ≡ false
-    go true e = absurd (h (elem-mem m l e))
-    go false e = e
 
 number-none : (number m : ℕ) (es : List Emission) → ((e : Emission) → List·Memᴰ e es → elem m (e .modules) ≡ false) → numberOf number m (modulesOf es) ≡ 0
 unfolding numberOf

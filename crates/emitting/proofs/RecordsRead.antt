@@ -3,13 +3,14 @@ use Prim.Native.Nat.{ℕ, suc, _+_, _*_, _≤_}
 use mathlib.Core.List.{List, [], _∷_, map}
 use mathlib.Core.Path.{_≡_, refl, sym, ap, _∙_}
 use native.Mathlib.Omega.{arith}
-use lib.ListN.{length, getD, set, length-map}
+use lib.ListN.{length, set, length-map}
 use lib.Seq.{sets}
-use Rattle.bitset.specs.declared.entries.BitSet.{BitSet}
-use Rattle.emitting.specs.Emitted.{Work, Emission, wordsOf, bitsOfChunk, withWords, withChunk, withChunks}
-use Rattle.emitting.specs.Areas.{placed, chunkWords}
-use Rattle.emitting.proofs.Chunk.{words-length}
-use Rattle.emitting.proofs.Stores.{sets-placed}
+use Rattle.lists.specs.Area.{placed}
+use Rattle.lists.proofs.Placed.{sets-placed}
+use Rattle.bitset.specs.Rows.{wordsOf, withRow}
+use Rattle.bitset.proofs.Rows.{length-with-row, words-count as all-words}
+use Rattle.emitting.specs.Emitted.{Work, Emission, bitsOfChunk, withChunk, withChunks}
+use Rattle.emitting.specs.Areas.{chunkWords}
 
 -- an area of one element a record, where a chunk is stored at its place
 module _ {A : Type 0} (area : Work → List A) (value : Emission → A)
@@ -45,18 +46,17 @@ module _ (bits : List ℕ) (number at : ℕ) (es : List Emission) (w : Work) whe
 
 words-count : (bits : List ℕ) (es : List Emission) → length (chunkWords bits es) ≡ 4 * length es
 unfolding chunkWords
-words-count bits [] = refl
-words-count bits (e ∷ es) = omega (arith, words-count bits es)
+words-count bits es = all-words (λ e. wordsOf (bitsOfChunk bits (e .head) (e .modules))) es (λ e m. refl)
 
 words-sets : (bits : List ℕ) (number at : ℕ) (es : List Emission) (w : Work) → 4 * at + 4 * length es ≤ length (w .bits-of)
     → withChunks bits number at es w .bits-of ≡ sets (w .bits-of) (4 * at) (chunkWords bits es)
-unfolding withChunks withChunk withWords chunkWords
+unfolding withChunks withChunk withRow chunkWords
 words-sets bits number at [] w h = refl
 words-sets bits number at (e ∷ es) w h =
     let s = bitsOfChunk bits (e .head) (e .modules) in
     let room : 4 * at + 4 ≤ length (w .bits-of) = omega arith in
     let next : 4 * suc at ≡ suc (suc (suc (suc (4 * at)))) = omega arith in
-    words-sets bits (suc number) (suc at) es (withChunk bits number at e w) (rw (words-length (w .bits-of) at s room) (omega arith))
+    words-sets bits (suc number) (suc at) es (withChunk bits number at e w) (rw (length-with-row (w .bits-of) at s room) (omega arith))
     ∙ ap (λ l. sets l (4 * suc at) (chunkWords bits es)) (sym (sets-placed (wordsOf s) (w .bits-of) (4 * at) room))
     ∙ ap (λ n. sets (sets (w .bits-of) (4 * at) (wordsOf s)) n (chunkWords bits es)) next
 
@@ -64,15 +64,3 @@ pub words-read : (bits : List ℕ) (number at : ℕ) (es : List Emission) (w : W
     → withChunks bits number at es w .bits-of ≡ placed (4 * at) (chunkWords bits es) (w .bits-of)
 words-read bits number at es w h =
     words-sets bits number at es w h ∙ sets-placed (chunkWords bits es) (w .bits-of) (4 * at) (rw (words-count bits es) h)
-
--- a set of four words is its four words
-pub four-words : (s : BitSet) → length (s .words) ≡ 4 → wordsOf s ≡ s .words
-four-words s = go (s .words)
-  where
-    go : (l : List ℕ) → length l ≡ 4 → getD l 0 0 ∷ getD l 1 0 ∷ getD l 2 0 ∷ getD l 3 0 ∷ [] ≡ l
-    go [] e = absurd (omega arith)
-    go (a ∷ []) e = absurd (omega arith)
-    go (a ∷ b ∷ []) e = absurd (omega arith)
-    go (a ∷ b ∷ c ∷ []) e = absurd (omega arith)
-    go (a ∷ b ∷ c ∷ d ∷ []) e = refl
-    go (a ∷ b ∷ c ∷ d ∷ f ∷ l) e = absurd (omega arith)

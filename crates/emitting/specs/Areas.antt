@@ -2,19 +2,15 @@
 use Prim.Native.Nat.{ℕ, suc, _+_}
 use mathlib.Core.Bool.{cond}
 use mathlib.Core.List.{List, [], _∷_, _++_, foldr}
-use lib.ListN.{length, take, drop}
 use Rattle.lists.specs.Elem.{elem}
-use Rattle.emitting.specs.Emitted.{Emission, wordsOf, bitsOfChunk, unionOfModules}
+use Rattle.emitting.specs.Emitted.{Emission, bitsOfChunk, unionOfModules}
+use Rattle.bitset.specs.Rows.{wordsOf}
 
 -- the number plus 1 of the chunk that has module m, or 0; the first chunk has the number `number`
 unfoldable pub numberOf : ℕ → ℕ → List (List ℕ) → ℕ
 unfolding elem
 numberOf number m [] = 0
 numberOf number m (modules ∷ chunks) = cond (elem m modules) (suc number) (numberOf (suc number) m chunks)
-
--- new records from the place `at` on, those before and past them as they were
-abbrev pub placed : {A : Type 0} → ℕ → List A → List A → List A
-placed at new before = take at before ++ (new ++ drop (at + length new) before)
 
 -- the words of the chunks' entry bits, one chunk after the other
 unfoldable pub chunkWords : List ℕ → List Emission → List ℕ

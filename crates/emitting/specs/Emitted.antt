@@ -1,11 +1,12 @@
 -- Chunks that are emitted, one after the other, into the areas that a run writes as it goes.
 use Prim.Native.Nat.{ℕ, suc, _+_, _-_, _*_, _≤_, _<_}
 use mathlib.Core.Bool.{Bool, true, false}
-use mathlib.Core.List.{List, [], _∷_, _++_, foldl, foldr}
+use mathlib.Core.List.{List, [], _∷_, foldl, foldr}
 use mathlib.Core.Path.{_≡_}
 use lib.Ieee.{Float}
 use lib.ListN.{length, getD, set, take, drop}
-use Rattle.bitset.specs.Entries.{wordAt, empty, unionOf, rowOf}
+use Rattle.bitset.specs.Entries.{empty, unionOf, rowOf}
+use Rattle.bitset.specs.Rows.{withRow}
 use Rattle.bitset.specs.declared.entries.BitSet.{BitSet}
 use Rattle.emitting.specs.declared.emit.Head.{Head}
 
@@ -40,24 +41,16 @@ bitsOfChunk bits head modules = bitsIf (head .«entries_aware») (head .bits) (u
 unfoldable pub withNumber : List ℕ → ℕ → List ℕ → List ℕ
 withNumber modules number chunk-of = foldl (λ l m. set l m number) chunk-of modules
 
--- the four words of a set
-abbrev pub wordsOf : BitSet → List ℕ
-wordsOf s = wordAt s 0 ∷ wordAt s 1 ∷ wordAt s 2 ∷ wordAt s 3 ∷ []
-
--- row `at` of a table of four words a row
-unfoldable pub withWords : List ℕ → ℕ → BitSet → List ℕ
-withWords table at s = take (4 * at) table ++ (wordsOf s ++ drop (4 * at + 4) table)
-
 -- the areas after one chunk more: its number, and the place of its record
 unfoldable pub withChunk : List ℕ → ℕ → ℕ → Emission → Work → Work
-unfolding withNumber withWords unionOfModules
+unfolding withNumber withRow unionOfModules
 withChunk bits number at e w =
     record {
       chunk-of = withNumber (e .modules) (suc number) (w .chunk-of);
       group-of = set (w .group-of) at (e .head .group);
       name-of = set (w .name-of) at (e .head .name);
       size-of = set (w .size-of) at (e .size);
-      bits-of = withWords (w .bits-of) at (bitsOfChunk bits (e .head) (e .modules));
+      bits-of = withRow (w .bits-of) at (bitsOfChunk bits (e .head) (e .modules));
     }
 
 -- and after several

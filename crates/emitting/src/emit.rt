@@ -1,9 +1,9 @@
 // One chunk emitted, and the pieces of an item emitted one after the other.
 use crate::members::add_modules_to_chunk;
 use crate::members::union_of;
-use crate::records::store_bits;
 use crate::records::store_fields;
 use bitset::entries::BitSet;
+use bitset::table::store_row;
 use index::ChunkIdx;
 ghost use mathlib.Core.Path.{_≡_};
 ghost use Prim.Native.Nat.{_+_, _<_, _^_};
@@ -68,7 +68,7 @@ pub fn emit_chunk(
     let own = chunk_bits(head, bits, members);
     add_modules_to_chunk(members, chunk_of, number.0 + 1);
     store_fields(group_of, name_of, size_of, at, head.group, head.name, size);
-    store_bits(bits_of, at, own);
+    store_row(bits_of, at, own);
 }
 
 // Emits the parts of a list that begin at `starts`, from its end to its start.

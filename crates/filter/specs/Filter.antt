@@ -23,7 +23,9 @@ sharedEnough (Given minimum) count = leb minimum count
 unfoldable pub passes : StaticFilter → ℕ → ℕ → ℕ → Bool
 unfolding contains sharedEnough
 passes f tags size shares =
-    contains tags (f .tags) && (atLeast (f .«min_module_size») (toF64 size) && (atMost (f .«max_module_size») (toF64 size) && sharedEnough (f .«min_share_count») shares))
+    contains tags (f .tags)
+    && (atLeast (f .«min_module_size») (toF64 size)
+    && (atMost (f .«max_module_size») (toF64 size) && sharedEnough (f .«min_share_count») shares))
 
 -- the conditions that Filter tests, in its order
 unfoldable pub filterTests : StaticFilter → ℕ → List Test

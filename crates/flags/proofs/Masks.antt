@@ -7,9 +7,8 @@ use borrow.Author.Tests.{eqb-true, eqb-false, eq-eqb, ne-eqb, not-true}
 use lib.Bits.{bitAnd, and-mask}
 use lib.Dec.{eqb}
 use lib.Pow.{mod-pow-add}
-use Rattle.lists.proofs.Below.{both}
+use Rattle.lists.proofs.Below.{both, same-truth}
 use Rattle.bitset.specs.Word.{bit}
-use Rattle.bitset.proofs.Bits.{same-truth}
 use Rattle.flags.specs.Flags.{listed, assigned, eligible}
 
 pub listed-mask : (f : ℕ) → eqb (bitAnd f 3) 3 ≡ listed f

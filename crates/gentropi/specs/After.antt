@@ -4,6 +4,7 @@ use mathlib.Core.Bool.{Bool, true, false}
 use mathlib.Core.Path.{_≡_}
 use lib.Ieee.{Float}
 use Rattle.refusal.specs.Outcome.{Outcome, refused, accepted, numberOf, valueOr}
+use Rattle.refusal.specs.Call.{Call}
 use Rattle.limit.specs.declared.Limit.{Limit}
 use Rattle.limit.specs.declared.Limit.the-variants as limit
 use Rattle.filter.specs.declared.MinShareCount.{MinShareCount}
@@ -42,7 +43,12 @@ sharesGiven false n = shares.Absent
 
 abbrev pub filterGiven : ℕ → Bool → Float → Bool → Float → Bool → ℕ → StaticFilter
 filterGiven tags has-min min has-max max has-shares shares =
-    record { tags = tags; «min_module_size» = limitGiven has-min min; «max_module_size» = limitGiven has-max max; «min_share_count» = sharesGiven has-shares shares }
+    record {
+      tags = tags;
+      «min_module_size» = limitGiven has-min min;
+      «max_module_size» = limitGiven has-max max;
+      «min_share_count» = sharesGiven has-shares shares;
+    }
 
 -- an exported cut: its answer, and the places after it
 pub record CutExport (outcome : Outcome Chosen) (answer : ℕ) (before after : CutPlaces) : Type 0 where
@@ -55,20 +61,14 @@ pub record FilterExport (outcome : Outcome Bool) (answer : ℕ) (before after : 
   pub place : after ≡ valueOr outcome before
 
 -- an exported capture: its answer, and the lent areas after it
-pub record CaptureExport (g : capturing.Given) (answer : ℕ) (before after : capture.Areas) : Type 0 where
-  pub number : answer ≡ numberOf (capture.captureOutcome g before)
-  pub refusal : (n : ℕ) → capture.captureOutcome g before ≡ refused n → after ≡ before
-  pub answered : capture.captureOutcome g before ≡ accepted tt → capture.Written g before after
+abbrev pub CaptureExport : capturing.Given → ℕ → capture.Areas → capture.Areas → Type 0
+CaptureExport g answer before after = Call numberOf (capture.captureOutcome g before) answer before after (λ _. capture.Written g before after)
 
 -- an exported merge: its answer, and the lent areas after it
-pub record MergeExport (g : merge.Given) (answer : ℕ) (before after : merge.Areas) : Type 0 where
-  pub number : answer ≡ numberOf (merge.mergeOutcome g before)
-  pub refusal : (n : ℕ) → merge.mergeOutcome g before ≡ refused n → after ≡ before
-  pub answered : merge.mergeOutcome g before ≡ accepted tt → after ≡ merge.written g before
+abbrev pub MergeExport : merge.Given → ℕ → merge.Areas → merge.Areas → Type 0
+MergeExport g answer before after = Call numberOf (merge.mergeOutcome g before) answer before after (λ _. after ≡ merge.written g before)
 
--- an exported Chunks: its answer, the place of the count, and the lent areas after it
+-- an exported Chunks: its answer with the lent areas after it, and the place of the count
 pub record ChunksExport (b : grouping.Given) (answer : ℕ) (count count′ : ℕ) (before after : grouping.Areas) : Type 0 where
-  pub number : answer ≡ numberOf (chunksOutcome scratchNeed b before)
+  pub call : Call numberOf (chunksOutcome scratchNeed b before) answer before after (λ _. after ≡ chunks.written 0 b before)
   pub place : count′ ≡ valueOr (chunksOutcome scratchNeed b before) count
-  pub refusal : (n : ℕ) → chunksOutcome scratchNeed b before ≡ refused n → after ≡ before
-  pub answered : (made : ℕ) → chunksOutcome scratchNeed b before ≡ accepted made → after ≡ chunks.written 0 b before

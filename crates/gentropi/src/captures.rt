@@ -16,7 +16,22 @@ pub extern "C" fn gentropi_capture(
     marks: &mut [u8],
     scratch: &mut [u32],
 ) -> u32
-    ensures { λ r. ⌜ CaptureExport (record { n = n; d = d; recursive = recursive; from = from; flags = now (flags .entry); first = now (first .entry); dependency = now (dependency .entry); next = now (next .entry) }) r (record { marks = now (marks .entry); scratch = now (scratch .entry) }) (record { marks = now (marks .exit); scratch = now (scratch .exit) }) ⌝ }
+    ensures { λ r. ⌜ CaptureExport (record {
+      n = n;
+      d = d;
+      recursive = recursive;
+      from = from;
+      flags = now (flags .entry);
+      first = now (first .entry);
+      dependency = now (dependency .entry);
+      next = now (next .entry);
+    }) r (record {
+      marks = now (marks .entry);
+      scratch = now (scratch .entry);
+    }) (record {
+      marks = now (marks .exit);
+      scratch = now (scratch .exit);
+    }) ⌝ }
 {
     let answer = capture::add_module_and_dependencies_to_group_recursively(
         n,

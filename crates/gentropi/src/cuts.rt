@@ -17,7 +17,17 @@ pub extern "C" fn gentropi_cut(
     left: &mut f64,
     right: &mut f64,
 ) -> u32
-    ensures { λ r. ⌜ CutExport (cutCall n (now (bytes .entry)) (now (offsets .entry)) (now (sizes .entry)) minimum maximum) r (record { found = now (found .entry); index = now (index .entry); left = now (left .entry); right = now (right .entry) }) (record { found = now (found .exit); index = now (index .exit); left = now (left .exit); right = now (right .exit) }) ⌝ }
+    ensures { λ r. ⌜ CutExport (cutCall n (now (bytes .entry)) (now (offsets .entry)) (now (sizes .entry)) minimum maximum) r (record {
+      found = now (found .entry);
+      index = now (index .entry);
+      left = now (left .entry);
+      right = now (right .entry);
+    }) (record {
+      found = now (found .exit);
+      index = now (index .exit);
+      left = now (left .exit);
+      right = now (right .exit);
+    }) ⌝ }
 {
     let answer = cut::pick_relevance_split_index(n, bytes, offsets, sizes, minimum, maximum);
     match answer {

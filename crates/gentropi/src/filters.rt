@@ -39,7 +39,9 @@ pub extern "C" fn gentropi_filter(
     share_count: u32,
     passes: &mut bool,
 ) -> u32
-    ensures { λ r. ⌜ FilterExport (filterCall (filterGiven mask «has_min» «min_module_size» «has_max» «max_module_size» «has_shares» «min_share_count») tags size «share_count») r (now (passes .entry)) (now (passes .exit)) ⌝ }
+    ensures { λ r. ⌜ FilterExport
+        (filterCall (filterGiven mask «has_min» «min_module_size» «has_max» «max_module_size» «has_shares» «min_share_count») tags size «share_count»)
+        r (now (passes .entry)) (now (passes .exit)) ⌝ }
 {
     let filter = StaticFilter {
         tags: mask,

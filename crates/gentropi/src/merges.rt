@@ -13,7 +13,21 @@ pub extern "C" fn gentropi_merge(
     final_sizes: &mut [u64],
     final_bits: &mut [u64],
 ) -> u32
-    ensures { λ r. ⌜ MergeExport (record { k = k; entries = entries; sizes = now (sizes .entry); bits = now (bits .entry); threshold = threshold }) r (record { numbers = now («final_numbers» .entry); sizes = now («final_sizes» .entry); bits = now («final_bits» .entry) }) (record { numbers = now («final_numbers» .exit); sizes = now («final_sizes» .exit); bits = now («final_bits» .exit) }) ⌝ }
+    ensures { λ r. ⌜ MergeExport (record {
+      k = k;
+      entries = entries;
+      sizes = now (sizes .entry);
+      bits = now (bits .entry);
+      threshold = threshold;
+    }) r (record {
+      numbers = now («final_numbers» .entry);
+      sizes = now («final_sizes» .entry);
+      bits = now («final_bits» .entry);
+    }) (record {
+      numbers = now («final_numbers» .exit);
+      sizes = now («final_sizes» .exit);
+      bits = now («final_bits» .exit);
+    }) ⌝ }
 {
     let answer = merge::merge_entries_aware_subgroups(
         k,

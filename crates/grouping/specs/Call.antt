@@ -3,7 +3,8 @@ use Prim.Native.Nat.{ℕ}
 use mathlib.Core.List.{List, _++_}
 use mathlib.Core.Path.{_≡_}
 use lib.ListN.{length}
-use Rattle.refusal.specs.Outcome.{Outcome, refused, accepted, Test, outcome}
+use Rattle.refusal.specs.Outcome.{Outcome, Test, outcome}
+use Rattle.refusal.specs.Call.{Call, whole}
 use Rattle.grouping.specs.Given.{Given, Areas}
 use Rattle.grouping.specs.ChunkList.{chunkList}
 use Rattle.grouping.specs.Written.{written}
@@ -21,7 +22,5 @@ chunksOutcome need b a = outcome (chunksTests need b a) (length (chunkList b))
 
 -- The call: what is handed in, the answer, and the content of the lent areas before and after it. From it alone follow the answer and the
 -- final content of everything lent. "the first new chunk has the first record of its area"
-pub record ChunksCall (need : Given → ℕ) (b : Given) (answer : Outcome ℕ) (before after : Areas) : Type 0 where
-  pub number : answer ≡ chunksOutcome need b before
-  pub refusal : (n : ℕ) → answer ≡ refused n → after ≡ before
-  pub answered : (count : ℕ) → answer ≡ accepted count → after ≡ written 0 b before
+abbrev pub ChunksCall : (Given → ℕ) → Given → Outcome ℕ → Areas → Areas → Type 0
+ChunksCall need b answer before after = Call whole (chunksOutcome need b before) answer before after (λ _. after ≡ written 0 b before)

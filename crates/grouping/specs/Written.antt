@@ -3,7 +3,8 @@ use Prim.Native.Nat.{ℕ, suc, _+_, _*_}
 use mathlib.Core.Bool.{cond}
 use mathlib.Core.List.{List, [], _∷_, _++_, map, foldr}
 use lib.Dec.{eqb}
-use lib.ListN.{length, take, drop, replicate}
+use lib.ListN.{length, drop, replicate}
+use Rattle.lists.specs.Area.{placed}
 use Rattle.lists.specs.Elem.{elem}
 use Rattle.lists.specs.Keep.{keepHead}
 use Rattle.lists.specs.Range.{range}
@@ -48,10 +49,6 @@ firstModule (m ∷ modules) = suc m
 -- the entries for all modules, entries past N as they were
 abbrev pub perModule : ℕ → (ℕ → ℕ) → List ℕ → List ℕ
 perModule n value before = map value (range 0 n) ++ drop n before
-
--- new records from the place `at` on, those before and past them as they were
-abbrev pub placed : {A : Type 0} → ℕ → List A → List A → List A
-placed at new before = take at before ++ (new ++ drop (at + length new) before)
 
 -- the words of the chunks' entry bits
 unfoldable pub bitWords : List Chunk → List ℕ

@@ -7,7 +7,7 @@ use borrow.Author.Tests.{eqb-true, eq-eqb, not-false}
 use lib.Dec.{eqb}
 use lib.ListN.{length, getD}
 use Rattle.lists.specs.Below.{anyBelow}
-use Rattle.lists.proofs.Below.{both, none-of}
+use Rattle.lists.proofs.Below.{both, none-of, refuted}
 use Rattle.refusal.specs.Outcome.{accepted, Applies, here, there}
 use Rattle.refusal.specs.Counts.{badLength}
 use Rattle.refusal.proofs.Lowest.{accepts}
@@ -47,10 +47,6 @@ two-apart b p none l m u v f g =
     sym (ap₂ (λ (x y : Bool). x && (y && p l m)) f g) ∙ two
 
 -- a condition that does not apply
-refuted : (t : Bool) → (t ≡ true → ⊥) → t ≡ false
-refuted true h = absurd (h refl)
-refuted false h = refl
-
 bits-long : (b : Given) → badTable b ≡ false → length (b .shared .bits) ≡ 4 * b .shared .n
 unfolding badTable badModuleTable
 bits-long b none =
@@ -79,7 +75,7 @@ tests-sound b table order dependency =
 
 -- ---- an accepted call
 
-module _ {need : Given → ℕ} {b : Given} {count : ℕ} {before after : Areas} (c : ChunksCall need b (accepted count) before after) where
+module _ (need : Given → ℕ) (b : Given) {count : ℕ} {before after : Areas} (c : ChunksCall need b (accepted count) before after) where
   none : (count ≡ length (chunkList b)) × ((m : ℕ) → Applies m (chunksTests need b before) → ⊥)
   unfolding chunksOutcome
   none = accepts (length (chunkList b)) count (chunksTests need b before) (sym (c .number))

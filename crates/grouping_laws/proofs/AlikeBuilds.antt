@@ -14,6 +14,7 @@ use Rattle.lists.specs.Elem.{elem}
 use Rattle.lists.proofs.Below.{all-of, both}
 use Rattle.lists.proofs.Elem.{elem-mem}
 use Rattle.refusal.specs.Outcome.{accepted}
+use Rattle.refusal.proofs.Calls.{accepts-call}
 use Rattle.bitset.specs.Entries.{rowOf}
 use Rattle.ids.specs.Parts.{idAt}
 use Rattle.records.specs.Chain.{dependencies}
@@ -112,13 +113,9 @@ alike =
     }
 
 -- an accepted call
-call : (b : Given) (before : Areas) (count : ℕ) → accepted count ≡ chunksOutcome scratchNeed b before → ChunksCall scratchNeed b (accepted count) before (written 0 b before)
-call b before count h =
-    record {
-      number = h;
-      refusal = λ n e. let none : _≡_ {A = ℕ} 0 1 = cc in absurd (omega arith);
-      answered = λ n e. refl;
-    }
+call : (b : Given) (before : Areas) (count : ℕ) → accepted count ≡ chunksOutcome scratchNeed b before
+    → ChunksCall scratchNeed b (accepted count) before (written 0 b before)
+call b before count h = accepts-call (sym h) (λ _. refl)
 
 pub ties-call : ChunksCall scratchNeed ties (accepted 3) (lent 1 1000 5 3) (written 0 ties (lent 1 1000 5 3))
 unfolding ties lent chunksOutcome scratchNeed ofInt

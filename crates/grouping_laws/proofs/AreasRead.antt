@@ -1,22 +1,24 @@
 -- What is read in the areas that an accepted call has written: below N the entries of the modules, below the count the records of the
 -- chunks. What lies past them does not matter.
 use Prim.Native.Nat.{ℕ, _+_, _*_, _≤_, _<_}
-use mathlib.Core.List.{List, [], _∷_, _++_, map, foldr, List·Memᴰ, List·Memᴰ·head, List·Memᴰ·tail}
-use mathlib.Core.Path.{_≡_, refl, ap, _∙_}
+use mathlib.Core.List.{List, [], _++_, map, List·Memᴰ}
+use mathlib.Core.Path.{_≡_, ap, _∙_}
 use native.Mathlib.Nat.{zero-add}
 use native.Mathlib.Omega.{arith}
-use lib.ListN.{length, getD, take, drop, length-append, length-map, length-drop, List·getD-append, List·getD-map}
+use lib.ListN.{length, getD, take, drop, length-map, length-drop, List·getD-append, List·getD-map}
 use lib.Seq.{take-append-le, drop-append-le}
 use Rattle.lists.specs.Range.{range}
+use Rattle.lists.specs.Area.{placed}
 use Rattle.lists.proofs.Range.{length-range, getD-range}
 use Rattle.lists.proofs.Map.{getD-map-below}
 use Rattle.whole.specs.Double.{toF64}
 use Rattle.bitset.specs.Entries.{rowOf}
 use Rattle.bitset.specs.declared.entries.BitSet.{BitSet}
+use Rattle.bitset.proofs.Rows.{words-count}
 use Rattle.grouping.specs.Given.{Given, Areas}
 use Rattle.grouping.specs.Tree.{placesOf}
 use Rattle.grouping.specs.ChunkList.{Chunk, chunkList}
-use Rattle.grouping.specs.Written.{modulesFrom, membersOf, chunkNumber, nextModule, firstModule, placed, bitWords, writtenModules, writtenRecords, written}
+use Rattle.grouping.specs.Written.{modulesFrom, membersOf, chunkNumber, nextModule, firstModule, bitWords, writtenModules, writtenRecords, written}
 use Rattle.grouping_laws.proofs.Accepted.{Sound}
 use Rattle.grouping_laws.proofs.ChunkBits.{four-words}
 
@@ -33,10 +35,7 @@ map-read f l before i d h = List·getD-append (map f l) (drop (0 + length (map f
 
 words-length : (chunks : List Chunk) → ((c : Chunk) → List·Memᴰ c chunks → length (c .bits .words) ≡ 4) → length (bitWords chunks) ≡ 4 * length chunks
 unfolding bitWords
-words-length [] h = refl
-words-length (c ∷ chunks) h =
-    length-append (c .bits .words) (bitWords chunks)
-    ∙ omega (arith, h c (List·Memᴰ·head refl), words-length chunks (λ u m. h u (List·Memᴰ·tail m)))
+words-length = words-count (λ c. c .bits .words)
 
 row-read : (table tail : List ℕ) (k : ℕ) → 4 * k + 4 ≤ length table → rowOf (table ++ tail) k ≡ rowOf table k
 unfolding rowOf

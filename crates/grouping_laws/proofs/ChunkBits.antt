@@ -1,8 +1,8 @@
 -- What holds of no entry and of the bits of every place, and is kept when bits unite, holds of the bits of every chunk. So each chunk's
 -- bits are four words.
 use Prim.Native.Nat.{ℕ, zero, suc, _*_, _<_}
-use mathlib.Core.Bool.{Bool, true, false, not}
-use mathlib.Core.List.{List, [], _∷_, _++_, map, foldr}
+use mathlib.Core.Bool.{Bool, true, false}
+use mathlib.Core.List.{List, [], _∷_, _++_, map}
 use mathlib.Core.List.{List·Memᴰ, List·Memᴰ·head, List·Memᴰ·tail, List·Memᴰ·cases-cons, List·Memᴰ·not-nil, List·Memᴰ·append-cases, List·Memᴰ·eq-of-singleton, Memᴰ·of-map}
 use mathlib.Core.Logic.{⊎-elim}
 use mathlib.Core.Option.{Option, none, some}
@@ -12,7 +12,7 @@ use lib.ListN.{length, take, drop, length-take, length-drop}
 use Rattle.lists.specs.Keep.{keep}
 use Rattle.lists.specs.Range.{range}
 use Rattle.lists.proofs.Least.{OfOption}
-use Rattle.lists.proofs.Members.{keep-mem, getD-holds}
+use Rattle.lists.proofs.Members.{getD-holds}
 use Rattle.lists.proofs.Sort.{sort-mem}
 use Rattle.bitset.specs.Entries.{empty, unionOf, rowOf}
 use Rattle.bitset.specs.declared.entries.BitSet.{BitSet}
@@ -23,14 +23,14 @@ use Rattle.grouping.specs.Settings.{allSettings}
 use Rattle.grouping.specs.Tree.{Member, Tree, placesOf, memberOf, treeOf, memberAt}
 use Rattle.grouping.specs.Item.{Item}
 use Rattle.grouping.specs.Sets.{named, setOf}
-use Rattle.grouping.specs.Subgroups.{sameBits, kindsOf, subgroupsFrom, mergedSubgroups, dividedItems}
+use Rattle.grouping.specs.Subgroups.{kindsOf, subgroupsFrom, mergedSubgroups, dividedItems}
 use Rattle.grouping.specs.WorkList.{comesFirst, itemsOfSet, itemsOfNames, itemsFrom, workList}
 use Rattle.grouping.specs.Fate.{Fate, emptied, dropped, parted, emitted, fateOf}
 use Rattle.grouping.specs.ChunkList.{Turn, rest, without, turns, enough, Chunk, unionAt, bitsOr, chunkFrom, emittedBy, chunksOfTurns, allTurns, chunksOf, chunkList}
 use Rattle.grouping_laws.proofs.BitKinds.{kind-in}
 use Rattle.grouping_laws.proofs.Accepted.{Sound}
 use Rattle.grouping_laws.proofs.Places.{places-mem}
-use Rattle.grouping_laws.proofs.MergeBits.{Held, merged-held}
+use Rattle.merge.proofs.BitsHeld.{Held, merged-held}
 
 module _ (P : BitSet → Type 0) (unite : (x y : BitSet) → P x → P y → P (unionOf x y)) (nothing : P empty) (tree : Tree)
     (all : (m : Member) → List·Memᴰ m tree → P (m .bits)) where

@@ -16,7 +16,6 @@ use Rattle.lists.proofs.KeepLength.{keep-le}
 use Rattle.lists.proofs.Members.{mem-keep, range-mem}
 use Rattle.lists.proofs.Position.{getD-mem}
 use Rattle.lists.proofs.Range.{length-range}
-use Rattle.bitset.specs.Entries.{wordAt}
 use Rattle.bitset.specs.declared.entries.BitSet.{BitSet}
 use Rattle.merge.specs.Subgroup.{Subgroup}
 use Rattle.options.specs.declared.Settings.{Settings}
@@ -24,7 +23,7 @@ use Rattle.grouping.specs.Tree.{Tree, memberAt}
 use Rattle.grouping.specs.Item.{Item}
 use Rattle.grouping.specs.Subgroups.{sameBits, kindsOf, subgroupsFrom, mergedSubgroups, kindNumber, placesEnded, itemOfSubgroup, dividedItems}
 use Rattle.grouping_laws.proofs.BitKinds.{same-refl}
-use Rattle.grouping_laws.proofs.MergeEnds.{Ended, merged-ended}
+use Rattle.merge.proofs.FinalNumbers.{Ended, merged-ended}
 
 -- ---- the kinds of bits
 

@@ -3,14 +3,12 @@ pub mod Accepted
 pub mod Places
 pub mod TreeEqual
 pub mod BitKinds
-pub mod MergeBits
 pub mod ChunkBits
 pub mod AreasRead
 pub mod Translated
 pub mod Renumbered
 pub mod Pieces
 pub mod SetPlaces
-pub mod MergeNumbers
 pub mod SubgroupPlaces
 pub mod WorkPlaces
 pub mod EnoughTurns
@@ -19,7 +17,6 @@ pub mod MarkedPlaces
 pub mod RoundsReach
 pub mod AtPlaces
 pub mod SetsAreCaptures
-pub mod MergeEnds
 pub mod KindsEnough
 pub mod AlikeBuilds
 pub mod LowestNumber

@@ -1,7 +1,7 @@
 -- The renumbering rule: builds that are alike have equal chunk lists, and what a call writes of them is the same, translated.
 use Prim.Native.Nat.{ℕ, _<_}
 use mathlib.Core.List.{List, [], map}
-use mathlib.Core.Path.{_≡_, refl, sym, ap, ap₂, _∙_, subst, subst₂}
+use mathlib.Core.Path.{_≡_, sym, ap, ap₂, _∙_, subst, subst₂}
 use lib.ListN.{length, getD, List·getD-map}
 use Rattle.refusal.specs.Outcome.{accepted}
 use Rattle.whole.specs.Double.{toF64}
@@ -57,12 +57,12 @@ module _ {ρ : ℕ → ℕ} {a b : Given} (r : Renumbering (a .shared .n) ρ) (a
 
 pub renumbering-rule : RenumberingRule
 renumbering-rule ρ need need′ a b count count′ before after before′ after′ r alike ca cb =
-    let sa = sound ca in
-    let sb = sound cb in (
-      count-is ca ∙ ap length (chunks-same r alike sa sb) ∙ sym (count-is cb),
-      subst₂ (SameList ρ (a .shared .n) count) (sym (ca .answered count refl)) (sym (cb .answered count′ refl))
+    let sa = sound need a ca in
+    let sb = sound need′ b cb in (
+      count-is need a ca ∙ ap length (chunks-same r alike sa sb) ∙ sym (count-is need′ b cb),
+      subst₂ (SameList ρ (a .shared .n) count) (sym (ca .answered count (sym (ca .number)))) (sym (cb .answered count′ (sym (cb .number))))
           (record {
-            records = λ k h. record-same r alike sa sb before before′ k (subst (λ (c : ℕ). k < c) (count-is ca) h);
+            records = λ k h. record-same r alike sa sb before before′ k (subst (λ (c : ℕ). k < c) (count-is need a ca) h);
             modules = place-same r alike sa sb before before′;
           }),
     )
@@ -71,4 +71,4 @@ renumbering-rule ρ need need′ a b count count′ before after before′ after
 pub same-modules : (ρ : ℕ → ℕ) (need need′ : Given → ℕ) (a b : Given) (count count′ : ℕ) (before after before′ after′ : Areas)
     → Renumbering (a .shared .n) ρ → Alike ρ a b → ChunksCall need a (accepted count) before after → ChunksCall need′ b (accepted count′) before′ after′
     → membersOf b ≡ map (map ρ) (membersOf a)
-same-modules ρ need need′ a b count count′ before after before′ after′ r alike ca cb = members-same r alike (sound ca) (sound cb)
+same-modules ρ need need′ a b count count′ before after before′ after′ r alike ca cb = members-same r alike (sound need a ca) (sound need′ b cb)

@@ -149,6 +149,6 @@ set-captures b e =
     is-union b (dependencies-in (s .first) (s .dependency) (s .next) (s .n) (s .d) (good (s .first) (s .dependency) (s .next) (s .n) (s .d) e))
 
 -- of an accepted call
-pub accepted-captures : {need : Given → ℕ} {b : Given} {count : ℕ} {before after : Areas} → ChunksCall need b (accepted count) before after
+pub accepted-captures : (need : Given → ℕ) (b : Given) {count : ℕ} {before after : Areas} → ChunksCall need b (accepted count) before after
     → (g : ℕ) → g < b .variant .g → (name : ℕ) → SetIsUnion b g name
-accepted-captures {need} {b} c = is-union b (sound c .named-in)
+accepted-captures need b c = is-union b (sound need b c .named-in)

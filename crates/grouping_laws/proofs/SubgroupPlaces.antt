@@ -2,9 +2,9 @@
 -- kind of bits, and each kind is that of a place of the set.
 use Prim.Native.Nat.{ℕ, zero, suc, _+_, _≤_, _<_}
 use mathlib.Core.Bool.{Bool, true, false, not, cond, false≢true}
-use mathlib.Core.List.{List, [], _∷_, map, List·Memᴰ, List·Memᴰ·head, List·Memᴰ·tail, List·Memᴰ·cases-cons, List·Memᴰ·not-nil, Memᴰ·of-map}
+use mathlib.Core.List.{List, [], _∷_, map, List·Memᴰ, List·Memᴰ·cases-cons, List·Memᴰ·not-nil, Memᴰ·of-map}
 use mathlib.Core.Logic.{⊎-elim}
-use mathlib.Core.Path.{_≡_, refl, sym, ap, _∙_, subst}
+use mathlib.Core.Path.{_≡_, sym, ap, _∙_, subst}
 use native.Mathlib.Nat.{add-zero, zero-add, le-of-suc-le-suc}
 use native.Mathlib.Omega.{arith}
 use borrow.Author.Tests.{eq-eqb}
@@ -18,7 +18,7 @@ use Rattle.lists.proofs.Pairs.{pairs-keep}
 use Rattle.lists.proofs.Position.{mem-getD, getD-mem}
 use Rattle.lists.proofs.Range.{length-range}
 use Rattle.lists.proofs.Sort.{Pairs, none, more}
-use Rattle.bitset.specs.Entries.{wordAt, empty}
+use Rattle.bitset.specs.Entries.{empty}
 use Rattle.bitset.specs.declared.entries.BitSet.{BitSet}
 use Rattle.merge.specs.Subgroup.{Subgroup}
 use Rattle.options.specs.declared.Settings.{Settings}
@@ -26,7 +26,7 @@ use Rattle.grouping.specs.Tree.{Tree, memberAt}
 use Rattle.grouping.specs.Item.{Item}
 use Rattle.grouping.specs.Subgroups.{sameBits, kindsOf, subgroupsFrom, mergedSubgroups, kindNumber, placesEnded, dividedItems}
 use Rattle.grouping_laws.proofs.BitKinds.{same-refl, kind-in}
-use Rattle.grouping_laws.proofs.MergeNumbers.{Known, merged-known}
+use Rattle.merge.proofs.FinalNumbers.{Known, merged-known}
 use Rattle.grouping_laws.proofs.SetPlaces.{Placed}
 
 -- ---- the kinds of bits: each is one of those handed in, and no two are the same

@@ -6,14 +6,14 @@ use native.Mathlib.Omega.{arith}
 use lib.Dec.{ltb}
 use lib.ListN.{length, take}
 use Rattle.lists.specs.Sort.{sortBy}
-use Rattle.sorts.proofs.Halves.{sort-length}
+use Rattle.lists.proofs.Rearranged.{sort-length}
 use Rattle.options.specs.declared.Settings.{Settings}
 use Rattle.grouping.specs.Given.{Given}
 use Rattle.grouping.specs.Tree.{treeOf}
 use Rattle.settling.specs.Traversal.{namesOf, afterName, afterGroup}
 use Rattle.emitting.specs.Emitted.{Work}
 use Rattle.items.specs.Turn.{Tables}
-use Rattle.sets.specs.Area.{Holds}
+use Rattle.lists.specs.Area.{Holds}
 use Rattle.sets.specs.Matched.{Matching, keysOf, Matchable}
 use Rattle.sets.specs.OfBuild.{matchingOf}
 use Rattle.sets.proofs.FromPassed.{places-few}

@@ -9,7 +9,7 @@ use Rattle.lists.proofs.Members.{range-mem}
 use Rattle.lists.proofs.Position.{getD-mem}
 use Rattle.lists.proofs.Range.{length-range}
 use Rattle.lists.proofs.Sort.{sort-mem}
-use Rattle.sorts.proofs.Halves.{sort-length}
+use Rattle.lists.proofs.Rearranged.{sort-length}
 use Rattle.options.specs.declared.Options.{Options}
 use Rattle.options.specs.declared.Settings.{Settings}
 use Rattle.options.specs.Force.{settingsUnder}

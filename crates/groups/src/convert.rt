@@ -1,6 +1,6 @@
 // Each group's matched modules are found when its turn comes, and its sets turned into chunks.
 use index::ChunkIdx;
-use names::closed::copy_flags;
+use lists::copy::copy_bytes;
 use names::convert_names;
 use options::Settings;
 use sets::gathered::store_places;
@@ -198,7 +198,7 @@ pub fn convert_groups_to_chunks(
     let mut place = [0u32; 4096];
     store_places(order, &mut place);
     let mut closed = [0u8; 4096];
-    copy_flags(flags, &mut closed[..n]);
+    copy_bytes(flags, &mut closed[..n]);
     let mut marks = [0u8; 4096];
     let mut followed = [0u8; 65536];
     let mut set = [0u32; 4096];

@@ -2,15 +2,15 @@
 -- are n in number, each at its place.
 use Prim.Native.Nat.{ℕ, zero, suc, _+_, _-_, _≤_, _<_}
 use mathlib.Core.Bool.{false}
-use mathlib.Core.List.{List, [], _∷_, map}
-use mathlib.Core.Path.{_≡_, refl, ap, _∙_}
-use native.Mathlib.Nat.{zero-add, zero-sub, sub-zero, suc-sub-suc, not-suc-le-zero, le-of-suc-le-suc}
-use borrow.Author.Tests.{le-ltb}
+use mathlib.Core.List.{List, [], _∷_}
+use mathlib.Core.Path.{_≡_, _∙_}
+use native.Mathlib.Nat.{zero-sub, sub-zero, suc-sub-suc}
 use lib.ListN.{length, getD, take, drop, length-map}
 use lib.Seq.{slice, take-nil, drop-nil, length-slice}
 use Rattle.lists.specs.Range.{range}
-use Rattle.lists.proofs.Range.{length-range, getD-range}
-use Rattle.ids.specs.Offsets.{idLimit, idTooLong, badOffsets}
+use Rattle.lists.proofs.Map.{getD-map-range}
+use Rattle.lists.proofs.Range.{length-range}
+use Rattle.ids.specs.Offsets.{badOffsets}
 use Rattle.ids.specs.Parts.{idAt, idsOf, InTable}
 use Rattle.ids.proofs.OffsetTable.{offset-within, offset-pair}
 
@@ -29,26 +29,12 @@ module _ (longest : ℕ) (bytes offsets : List ℕ) (k : ℕ) (good : badOffsets
   unfolding idAt
   id-length = rw (length-slice _ _ bytes (in-table .ends)) (offset-pair longest _ offsets good k h .1)
 
--- under the limit of 1,024 bytes no id is too long
-pub id-fits : (bytes offsets : List ℕ) (k : ℕ) → badOffsets idLimit (length bytes) offsets ≡ false → k + 1 < length offsets
-    → idTooLong (idAt bytes offsets k) ≡ false
-unfolding idTooLong
-id-fits bytes offsets k good h = le-ltb _ _ (id-length idLimit bytes offsets k good h)
-
 -- ---- the ids of n modules
 
 pub ids-length : (n : ℕ) (bytes offsets : List ℕ) → length (idsOf n bytes offsets) ≡ n
 unfolding idsOf
 ids-length n bytes offsets = length-map (range 0 n) (idAt bytes offsets) ∙ length-range 0 n
 
-getD-image : {A B : Type 0} (f : A → B) (l : List A) (k : ℕ) (d : A) (e : B) → k < length l → getD (map f l) k e ≡ f (getD l k d)
-getD-image f [] k d e h = absurd (not-suc-le-zero h)
-getD-image f (x ∷ l) zero d e h = refl
-getD-image f (x ∷ l) (suc k) d e h = getD-image f l k d e (le-of-suc-le-suc h)
-
 pub ids-at : (n : ℕ) (bytes offsets : List ℕ) (k : ℕ) → k < n → getD (idsOf n bytes offsets) k [] ≡ idAt bytes offsets k
 unfolding idsOf
-ids-at n bytes offsets k h =
-    let g : k < length (range 0 n) = rw length-range h in
-    getD-image (idAt bytes offsets) (range 0 n) k 0 [] g
-    ∙ ap (idAt bytes offsets) (getD-range 0 n k 0 h ∙ zero-add k)
+ids-at n bytes offsets k h = getD-map-range (idAt bytes offsets) n k [] h

@@ -10,11 +10,11 @@ use borrow.Author.Tests.{eq-eqb, ne-eqb}
 use lib.ListN.{length, getD, set}
 use Rattle.lists.specs.Elem.{elem}
 use Rattle.lists.specs.Keep.{keepHead}
-use Rattle.lists.proofs.Elem.{elem-mem, mem-elem}
+use Rattle.lists.proofs.Elem.{elem-mem, mem-elem, not-elem}
 use Rattle.lists.proofs.Members.{map-same}
 use Rattle.lists.proofs.Sort.{Pairs, none, more}
 use Rattle.grouping.specs.Written.{modulesFrom, chunkNumber, after, nextModule, firstModule}
-use Rattle.linking.proofs.Modules.{not-elem, modules-mem, elem-other}
+use Rattle.linking.proofs.Modules.{modules-mem, elem-other}
 
 -- the modules of each chunk, chunks given by their places
 abbrev pub eachFrom : ℕ → List (List ℕ) → List ℕ → List (List ℕ)

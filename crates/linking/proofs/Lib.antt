@@ -2,7 +2,7 @@
 pub mod OneMore
 pub mod Modules
 pub mod Found
-pub mod AreaParts
+pub mod PerModule
 pub mod LinkedOrder
 pub mod ChunkModules
 pub mod LinkWrites

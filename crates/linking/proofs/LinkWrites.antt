@@ -10,14 +10,15 @@ use Rattle.lists.proofs.Sort.{Pairs, pairs-map}
 use Rattle.grouping.specs.Given.{Given}
 use Rattle.grouping.specs.Tree.{placesOf}
 use Rattle.grouping.specs.ChunkList.{Chunk}
-use Rattle.grouping.specs.Written.{modulesFrom, chunkNumber, nextModule, placed}
+use Rattle.grouping.specs.Written.{modulesFrom, chunkNumber, nextModule}
+use Rattle.lists.specs.Area.{placed}
 use Rattle.grouping_laws.proofs.ChunkPlaces.{Apart}
 use Rattle.grouping_laws.proofs.Places.{places-mem}
 use Rattle.linking.specs.Links.{Links, linked}
 use Rattle.linking.specs.Made.{modulesOfEach}
 use Rattle.linking.specs.Chains.{Cleared, Linked}
 use Rattle.linking.proofs.Found.{ApartPlaces, eachFrom}
-use Rattle.linking.proofs.AreaParts.{module-read, module-rest, module-long, per-module}
+use Rattle.linking.proofs.PerModule.{module-read, module-rest, module-long, per-module}
 use Rattle.linking.proofs.LinkedOrder.{Chained, order-chained}
 use Rattle.linking.proofs.ChunkModules.{place-number}
 

@@ -13,9 +13,10 @@ use lib.Seq.{getD-set-same, getD-set-other, drop-set-lt}
 use Rattle.lists.specs.Elem.{elem}
 use Rattle.lists.proofs.Distinct.{Distinct}
 use Rattle.lists.proofs.Sort.{Pairs, none, more}
-use Rattle.grouping.specs.Written.{modulesFrom, chunkNumber, nextModule, firstModule, placed}
+use Rattle.grouping.specs.Written.{modulesFrom, chunkNumber, nextModule, firstModule}
+use Rattle.lists.specs.Area.{placed}
 use Rattle.linking.specs.Links.{Links, slotOf, pushed, linked}
-use Rattle.linking.proofs.Modules.{not-elem}
+use Rattle.lists.proofs.Elem.{not-elem}
 use Rattle.linking.proofs.Found.{
   eachFrom,
   ApartPlaces,
@@ -30,7 +31,7 @@ use Rattle.linking.proofs.Found.{
   found-next,
   other-next,
 }
-use Rattle.linking.proofs.AreaParts.{placed-set, placed-read}
+use Rattle.lists.proofs.Placed.{placed-set, placed-read}
 
 -- the chains of chunks with these modules, over n modules; the areas as they were elsewhere
 pub record Chained (n at : ℕ) (members : List (List ℕ)) (entry : Links) (before : List ℕ) (now : Links) : Type 0 where

@@ -14,16 +14,18 @@ use Rattle.lists.proofs.Sort.{Pairs, none, more}
 use Rattle.grouping.specs.Given.{Given}
 use Rattle.grouping.specs.Tree.{placesOf}
 use Rattle.grouping.specs.ChunkList.{Chunk}
-use Rattle.grouping.specs.Written.{chunkNumber, placed, bitWords}
+use Rattle.grouping.specs.Written.{chunkNumber, bitWords}
+use Rattle.lists.specs.Area.{placed}
 use Rattle.grouping_laws.proofs.ChunkPlaces.{Apart}
 use Rattle.emitting.specs.Emitted.{Work, Emission, withChunks}
 use Rattle.emitting.proofs.Chunks.{chunks-lengths}
 use Rattle.emitting.proofs.Numbers as emissions
 use Rattle.emitting.proofs.RecordsRead.{groups-read, names-read, sizes-read, words-read}
 use Rattle.linking.specs.Made.{modulesOf, modulesOfEach, Fresh, Made, AllMatch, HasRoom, none, more}
-use Rattle.linking.proofs.Modules.{not-elem}
+use Rattle.lists.proofs.Elem.{not-elem}
 use Rattle.linking.proofs.Found.{none-number}
-use Rattle.linking.proofs.AreaParts.{module-rest, per-module, placed-none, placed-length, placed-more}
+use Rattle.linking.proofs.PerModule.{module-rest, per-module}
+use Rattle.lists.proofs.Placed.{placed-none, placed-length, placed-more}
 use Rattle.linking.proofs.PastModules.{chunks-rest}
 use Rattle.linking.proofs.BitWords.{words-count, words-append}
 use Rattle.linking.proofs.MadeRead.{made-long, made-number}

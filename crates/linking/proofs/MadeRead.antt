@@ -8,13 +8,15 @@ use Rattle.lists.proofs.Position.{getD-mem}
 use Rattle.grouping.specs.Given.{Given}
 use Rattle.grouping.specs.Tree.{placesOf}
 use Rattle.grouping.specs.ChunkList.{Chunk}
-use Rattle.grouping.specs.Written.{chunkNumber, placed, bitWords}
+use Rattle.grouping.specs.Written.{chunkNumber, bitWords}
+use Rattle.lists.specs.Area.{placed}
 use Rattle.grouping_laws.proofs.Places.{places-mem}
 use Rattle.settling.specs.Modules.{moduleAt}
 use Rattle.emitting.specs.Emitted.{Work}
 use Rattle.emitting.proofs.Chunk.{SameLengths}
 use Rattle.linking.specs.Made.{modulesOfEach, Made, HasRoom}
-use Rattle.linking.proofs.AreaParts.{module-read, module-long, module-length, placed-length}
+use Rattle.linking.proofs.PerModule.{module-read, module-long, module-length}
+use Rattle.lists.proofs.Placed.{placed-length}
 use Rattle.linking.proofs.BitWords.{words-count}
 use Rattle.linking.proofs.ChunkModules.{place-number}
 

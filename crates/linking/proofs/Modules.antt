@@ -11,17 +11,10 @@ use lib.ListN.{length, getD}
 use Rattle.lists.specs.Elem.{elem}
 use Rattle.lists.specs.Keep.{keepHead}
 use Rattle.lists.proofs.Distinct.{Distinct}
-use Rattle.lists.proofs.Elem.{elem-mem, mem-elem}
+use Rattle.lists.proofs.Elem.{elem-mem, mem-elem, not-elem}
 use Rattle.lists.proofs.Position.{getD-mem, mem-getD}
 use Rattle.lists.proofs.Sort.{none, more}
 use Rattle.grouping.specs.Written.{modulesFrom}
-
-pub not-elem : (m : ℕ) (l : List ℕ) → (List·Memᴰ m l → ⊥) → elem m l ≡ false
-not-elem m l h = go (elem m l) refl
-  where
-    go : (t : Bool) → elem m l ≡ t → elem m l ≡ false
-    go true e = absurd (h (elem-mem m l e))
-    go false e = e
 
 head-mem : {x : ℕ} (t : Bool) (m : ℕ) (l ms : List ℕ) → (List·Memᴰ x l → List·Memᴰ x ms)
     → List·Memᴰ x (keepHead t m l) → List·Memᴰ x (m ∷ ms)

@@ -14,9 +14,10 @@ use Rattle.lists.proofs.Elem.{elem-mem, elem-same}
 use Rattle.grouping.specs.Given.{Given}
 use Rattle.grouping.specs.ChunkList.{Chunk}
 use Rattle.grouping.specs.Written.{chunkNumber, bitWords}
-use Rattle.emitting.specs.Emitted.{Emission, wordsOf}
+use Rattle.emitting.specs.Emitted.{Emission}
+use Rattle.bitset.specs.Rows.{wordsOf}
 use Rattle.emitting.specs.Areas.{numberOf, chunkWords}
-use Rattle.emitting.proofs.RecordsRead.{four-words}
+use Rattle.bitset.proofs.Rows.{four-words}
 use Rattle.linking.specs.Made.{modulesOf, modulesOfEach, Matches, AllMatch, none, more}
 
 -- ---- chunk numbers

@@ -5,7 +5,8 @@ use mathlib.Core.Path.{_≡_}
 use lib.ListN.{length, replicate}
 use Rattle.grouping.specs.Given.{Given, ModuleAreas, ChunkRecords}
 use Rattle.grouping.specs.ChunkList.{Chunk}
-use Rattle.grouping.specs.Written.{nextModule, firstModule, perModule, placed}
+use Rattle.grouping.specs.Written.{nextModule, firstModule, perModule}
+use Rattle.lists.specs.Area.{placed}
 use Rattle.emitting.specs.Emitted.{Work}
 use Rattle.linking.specs.Links.{Links}
 use Rattle.linking.specs.Made.{modulesOfEach}

@@ -6,7 +6,8 @@ use lib.ListN.{length}
 use Rattle.grouping.specs.Given.{Given}
 use Rattle.grouping.specs.Tree.{placesOf}
 use Rattle.grouping.specs.ChunkList.{Chunk}
-use Rattle.grouping.specs.Written.{modulesFrom, chunkNumber, perModule, placed, bitWords}
+use Rattle.grouping.specs.Written.{modulesFrom, chunkNumber, perModule, bitWords}
+use Rattle.lists.specs.Area.{placed}
 use Rattle.emitting.specs.Emitted.{Work, Emission, bitsOfChunk}
 
 -- the modules of a chunk, in execution order

@@ -1,10 +1,10 @@
 -- Tests over the numbers below a bound: what an answer says of each number, that tests which agree have the same answer,
 -- and how a bound splits in two.
 use Prim.Native.Nat.{ℕ, zero, suc, _+_, _<_}
-use mathlib.Core.Bool.{Bool, true, false, _&&_, _||_, cond, or-assoc, or-true, and-assoc, and-false, true≢false, false≢true}
+use mathlib.Core.Bool.{Bool, true, false, _&&_, _||_, cond, or-assoc, or-true, and-false, true≢false, false≢true}
 use mathlib.Core.Logic.{⊎-elim}
 use mathlib.Core.Path.{_≡_, refl, sym, ap, _∙_, subst}
-use native.Mathlib.Nat.{add-zero, add-suc, add-assoc, add-comm, not-suc-le-zero, eq-or-lt-of-le, le-of-suc-le-suc, lt-suc-self, lt-of-lt-of-le, le-of-lt}
+use native.Mathlib.Nat.{add-zero, add-suc, add-assoc, not-suc-le-zero, eq-or-lt-of-le, le-of-suc-le-suc, lt-suc-self, lt-of-lt-of-le, le-of-lt}
 use Rattle.lists.specs.Below.{anyBelow, allBelow, countBelow}
 
 -- the two halves of a disjunction that is false, and of a conjunction that is true
@@ -15,6 +15,16 @@ neither false b e = (refl, e)
 pub both : (a b : Bool) → (a && b) ≡ true → (a ≡ true) × (b ≡ true)
 both true b e = (refl, e)
 both false b e = absurd (false≢true e)
+
+-- a test that does not hold, and two that hold together
+pub refuted : (a : Bool) → (a ≡ true → ⊥) → a ≡ false
+refuted true h = absurd (h refl)
+refuted false h = refl
+
+pub same-truth : (a b : Bool) → (a ≡ true → b ≡ true) → (b ≡ true → a ≡ true) → a ≡ b
+same-truth true b f g = sym (f refl)
+same-truth false true f g = g refl
+same-truth false false f g = refl
 
 -- what holds of each number below n, and of n, holds of each below suc n
 below-suc : (P : ℕ → Type 0) (n : ℕ) → ((k : ℕ) → k < n → P k) → P n → (k : ℕ) → k < suc n → P k

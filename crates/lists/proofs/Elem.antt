@@ -6,6 +6,7 @@ use mathlib.Core.Path.{_≡_, refl, sym, ap, ap₂, _∙_}
 use borrow.Author.Tests.{eqb-true, eqb-false, eq-eqb, ne-eqb}
 use lib.Dec.{eqb}
 use Rattle.lists.specs.Elem.{elem}
+use Rattle.lists.proofs.Below.{refuted}
 
 pub elem-mem : (x : ℕ) (l : List ℕ) → elem x l ≡ true → List·Memᴰ x l
 unfolding elem
@@ -20,6 +21,9 @@ pub mem-elem : (x : ℕ) {l : List ℕ} → List·Memᴰ x l → elem x l ≡ tr
 unfolding elem
 mem-elem x (List·Memᴰ·head {x = y} e) = rw (eq-eqb x y e)
 mem-elem x (List·Memᴰ·tail {x = y} m) = rw (mem-elem x m) (or-true (eqb x y))
+
+pub not-elem : (x : ℕ) (l : List ℕ) → (List·Memᴰ x l → ⊥) → elem x l ≡ false
+not-elem x l h = refuted (elem x l) (λ e. h (elem-mem x l e))
 
 -- the test agrees where membership does
 pub elem-same : (x y : ℕ) (l r : List ℕ) → (List·Memᴰ x l → List·Memᴰ y r) → (List·Memᴰ y r → List·Memᴰ x l) → elem x l ≡ elem y r

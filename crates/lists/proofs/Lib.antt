@@ -1,11 +1,15 @@
 -- The laws of the definitions of specs/.
 pub mod Below
+pub mod Count
 pub mod Keep
 pub mod Range
 pub mod Sum
+pub mod SumChanged
 pub mod Fold
 pub mod Map
-pub mod Grow
+pub mod Front
+pub mod Placed
+pub mod Stored
 pub mod Members
 pub mod Elem
 pub mod Sort

@@ -1,13 +1,12 @@
 -- Parts of a list: their images, what stands in them, a part of a part, two parts side by side, and one element more.
 -- `slice f t l`, the elements from f up to t, is what code reads as `l[f..t]`; it is also `take (t - f) (drop f l)`.
-use Prim.Native.Nat.{ℕ, zero, suc, _+_, _-_, _≤_, _<_}
+use Prim.Native.Nat.{ℕ, zero, suc, _+_, _-_, _≤_}
 use mathlib.Core.List.{List, [], _∷_, _++_, map, List·Memᴰ, Memᴰ·append-left, Memᴰ·append-right}
 use mathlib.Core.Path.{_≡_, refl, sym, ap, ap₂, _∙_, subst}
 use native.Mathlib.Nat.{sub-zero, zero-sub, suc-sub-suc}
-use native.Mathlib.Numerals.{add-one}
 use native.Mathlib.Omega.{arith}
-use lib.ListN.{length, getD, take, drop, take-append-drop}
-use lib.Seq.{take-nil, take-take, drop-drop, take-suc, drop-append-le, length-take-le, slice}
+use lib.ListN.{take, drop, take-append-drop}
+use lib.Seq.{take-nil, take-take, drop-drop, slice}
 
 module _ {A B : Type 0} (f : A → B) where
   pub map-take : (n : ℕ) (l : List A) → map f (take n l) ≡ take n (map f l)
@@ -19,9 +18,6 @@ module _ {A B : Type 0} (f : A → B) where
   map-drop zero l = refl
   map-drop (suc n) [] = refl
   map-drop (suc n) (x ∷ l) = map-drop n l
-
-  pub map-slice : (a b : ℕ) (l : List A) → map f (slice a b l) ≡ slice a b (map f l)
-  map-slice a b l = map-drop a (take b l) ∙ ap (drop a) (map-take b l)
 
 module _ {A : Type 0} where
   pub take-mem : {x : A} (n : ℕ) (l : List A) → List·Memᴰ x (take n l) → List·Memᴰ x l
@@ -61,8 +57,3 @@ module _ {A : Type 0} where
   pub slice-join : (a b c : ℕ) (l : List A) → a ≤ b → b ≤ c → slice a b l ++ slice b c l ≡ slice a c l
   slice-join a b c l h k =
       sym (drop-part a b (take c l) h ∙ ap (λ (r : List A). r ++ slice b c l) (sym (slice-part a b (take c l)) ∙ ap (drop a) (take-take b c l k)))
-
-  pub slice-more : (a i : ℕ) (l : List A) (d : A) → a ≤ i → i < length l → slice a (i + 1) l ≡ slice a i l ++ (getD l i d ∷ [])
-  slice-more a i l d h k =
-      let within : a ≤ length (take i l) = rw (length-take-le i l (omega arith)) h in
-      rw (add-one i) (ap (drop a) (take-suc l i d k) ∙ drop-append-le a (take i l) (getD l i d ∷ []) within)

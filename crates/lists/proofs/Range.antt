@@ -1,8 +1,8 @@
--- Numbers in ascending order: how many there are, what stands at each place, and one more at the end.
+-- Numbers in ascending order: how many there are, what stands at each place, one more at the end, and two parts of them.
 use Prim.Native.Nat.{ℕ, zero, suc, _+_, _<_, suc-le-suc}
-use mathlib.Core.List.{List, [], _∷_, _++_, map}
+use mathlib.Core.List.{List, [], _∷_, _++_, map, append-nil, append-assoc}
 use mathlib.Core.Path.{_≡_, refl, sym, ap, ap₂, _∙_}
-use native.Mathlib.Nat.{add-zero, add-suc, suc-add, not-suc-le-zero, le-of-suc-le-suc, zero-lt-suc}
+use native.Mathlib.Nat.{add-zero, add-suc, add-assoc, suc-add, not-suc-le-zero, le-of-suc-le-suc, zero-lt-suc}
 use lib.ListN.{length, getD}
 use Rattle.lists.specs.Range.{range}
 
@@ -24,6 +24,18 @@ pub range-snoc : (a k : ℕ) → range a (suc k) ≡ range a k ++ ((a + k) ∷ [
 unfolding range
 range-snoc a zero = ap (λ (n : ℕ). n ∷ []) (sym (add-zero a))
 range-snoc a (suc k) = ap (λ (l : List ℕ). a ∷ l) (range-snoc (suc a) k ∙ ap (λ (n : ℕ). range (suc a) k ++ (n ∷ [])) (shift a k))
+
+-- in two parts
+pub range-append : (a x y : ℕ) → range a (x + y) ≡ range a x ++ range (a + x) y
+unfolding range
+range-append a x zero = ap (range a) (add-zero x) ∙ sym (append-nil (range a x))
+range-append a x (suc y) =
+    ap (range a) (add-suc x y)
+    ∙ range-snoc a (x + y)
+    ∙ ap (λ l. l ++ ((a + (x + y)) ∷ [])) (range-append a x y)
+    ∙ append-assoc (range a x) (range (a + x) y) ((a + (x + y)) ∷ [])
+    ∙ ap (λ n. range a x ++ (range (a + x) y ++ (n ∷ []))) (sym (add-assoc a x y))
+    ∙ ap (λ l. range a x ++ l) (sym (range-snoc (a + x) y))
 
 -- two functions that agree on the numbers have the same images
 pub map-range : {A : Type 0} (f g : ℕ → A) (a k : ℕ) → ((i : ℕ) → i < k → f (a + i) ≡ g (a + i)) → map f (range a k) ≡ map g (range a k)

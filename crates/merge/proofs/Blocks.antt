@@ -1,26 +1,26 @@
 -- Blocks of numbers and the numbers that stand for them: the heads have the first seeker of all, and a join changes the blocks of two numbers alone.
 use Prim.Native.Nat.{ℕ, zero, suc, _+_, _*_, _-_, _/_, _≤_, _<_, _^_}
 use mathlib.Core.Bool.{Bool, true, false, _&&_, cond}
-use mathlib.Core.List.{List, [], _∷_, _++_, map, append-nil, append-assoc, List·Memᴰ, List·Memᴰ·cases-cons, List·Memᴰ·not-nil}
+use mathlib.Core.List.{List, [], _∷_, _++_, map, append-nil, List·Memᴰ, List·Memᴰ·cases-cons, List·Memᴰ·not-nil}
 use mathlib.Core.Logic.{⊎-elim}
 use mathlib.Core.Option.{Option, none, some, Option·map}
 use mathlib.Core.Path.{_≡_, refl, sym, ap, ap₂, _∙_, subst}
-use native.Mathlib.Nat.{add-zero, zero-add, add-suc, add-assoc, not-suc-le-zero, le-of-suc-le-suc}
+use native.Mathlib.Nat.{zero-add}
 use native.Mathlib.Omega.{arith}
 use lib.Dec.{ltb}
 use lib.Ieee.{Float, lt}
-use lib.ListN.{length, getD, set, take}
+use lib.ListN.{length, getD, set, take, List·getD-eq-default}
 use lib.Seq.{take-suc, take-length, getD-set-same, getD-set-other}
 use Rattle.lists.specs.Keep.{keep, keepHead}
 use Rattle.lists.specs.Least.{least}
 use Rattle.lists.specs.Range.{range}
 use Rattle.lists.proofs.Keep.{keep-append}
-use Rattle.lists.proofs.KeepTests.{keep-same, keep-none}
+use Rattle.lists.proofs.KeepTests.{keep-same, keep-none, keep-map, keep-keep}
 use Rattle.lists.proofs.Least.{cond-holds}
 use Rattle.lists.proofs.Members.{range-mem, getD-holds, map-same}
 use Rattle.lists.proofs.Orders.{thenBy, key-order, number-order, then-order}
 use Rattle.lists.proofs.Position.{mem-getD}
-use Rattle.lists.proofs.Range.{range-snoc}
+use Rattle.lists.proofs.Range.{range-snoc, range-append}
 use Rattle.lists.proofs.Sort.{lower}
 use Rattle.lists.proofs.Sorted.{WeakOrder}
 use Rattle.whole.specs.Double.{toF64}
@@ -30,7 +30,7 @@ use Rattle.merge.specs.Search.{seeking, comesFirst, seekerAt}
 use Rattle.merge.specs.Seekers.{firstSeeker, seeksAt, seeksBefore, ahead, Exact, StandsFor, Heads, Refreshed}
 use Rattle.merge.specs.Engine.{isThere, listed, Sound, Joinable, JoinedTables}
 use Rattle.merge.specs.declared.candidate.Candidate.{Candidate}
-use Rattle.merge.proofs.Kept.{by-number, keep-map, keep-keep}
+use Rattle.merge.proofs.Kept.{by-number}
 use Rattle.merge.proofs.Least.{sooner, least-map, least-append}
 use Rattle.merge.proofs.Joining.{size-of-other, joined-sizes}
 
@@ -39,24 +39,6 @@ pub record LookedThrough (threshold : Float) (sizes : List ℕ) (start i best : 
   pub from : start ≤ best
   pub below : best < i
   pub first : firstSeeker threshold sizes (best ∷ []) ≡ firstSeeker threshold sizes (range start (i - start))
-
--- ---- numbers of a range, and of a table past its end
-
-pub range-append : (a x y : ℕ) → range a (x + y) ≡ range a x ++ range (a + x) y
-unfolding range
-range-append a x zero = ap (range a) (add-zero x) ∙ sym (append-nil (range a x))
-range-append a x (suc y) =
-    ap (range a) (add-suc x y)
-    ∙ range-snoc a (x + y)
-    ∙ ap (λ l. l ++ ((a + (x + y)) ∷ [])) (range-append a x y)
-    ∙ append-assoc (range a x) (range (a + x) y) ((a + (x + y)) ∷ [])
-    ∙ ap (λ n. range a x ++ (range (a + x) y ++ (n ∷ []))) (sym (add-assoc a x y))
-    ∙ ap (λ l. range a x ++ l) (sym (range-snoc (a + x) y))
-
-getD-past : (l : List ℕ) (i : ℕ) → length l ≤ i → getD l i 0 ≡ 0
-getD-past [] i h = refl
-getD-past (x ∷ l) zero h = absurd (not-suc-le-zero h)
-getD-past (x ∷ l) (suc i) h = getD-past l i (le-of-suc-le-suc h)
 
 -- ---- the order of seekers
 
@@ -85,7 +67,7 @@ module _ (threshold : Float) (sizes : List ℕ) where
   numbered : (l : List ℕ) → firstSeeker threshold sizes l ≡ Option·map (seekerAt sizes) (firstNumber l)
   unfolding firstSeeker firstNumber
   numbered l =
-      ap (least comesFirst) (keep-map (seekerAt sizes) (seeking threshold) l)
+      ap (least comesFirst) (keep-map (seeking threshold) (seekerAt sizes) l)
       ∙ least-map (seeksBefore sizes) comesFirst (seekerAt sizes) (λ x y. refl) (keep (seeksAt threshold sizes) l)
 
   number-of : (o : Option ℕ) → Option·map (λ (c : Candidate). c .number) (Option·map (seekerAt sizes) o) ≡ o
@@ -109,9 +91,9 @@ module _ (threshold : Float) (sizes : List ℕ) where
       → firstSeeker threshold sizes l ≡ firstSeeker threshold sizes m
   unfolding firstSeeker
   same-kept l m e =
-      ap (least comesFirst) (keep-map (seekerAt sizes) (seeking threshold) l)
+      ap (least comesFirst) (keep-map (seeking threshold) (seekerAt sizes) l)
       ∙ ap (λ t. least comesFirst (map (seekerAt sizes) t)) e
-      ∙ sym (ap (least comesFirst) (keep-map (seekerAt sizes) (seeking threshold) m))
+      ∙ sym (ap (least comesFirst) (keep-map (seeking threshold) (seekerAt sizes) m))
 
   pub cut-short : (a x y : ℕ) → length sizes ≤ a + x → firstSeeker threshold sizes (range a (x + y)) ≡ firstSeeker threshold sizes (range a x)
   cut-short a x y h =
@@ -120,7 +102,7 @@ module _ (threshold : Float) (sizes : List ℕ) where
       (ap (keep seeks) (range-append a x y)
       ∙ keep-append seeks (range a x) (range (a + x) y)
       ∙ ap (λ l. keep seeks (range a x) ++ l) (keep-none seeks (range (a + x) y)
-      (λ i m. no-size-no-seeker i (getD-past sizes i (let r = range-mem (a + x) y i m in omega arith))))
+      (λ i m. no-size-no-seeker i (List·getD-eq-default sizes 0 (let r = range-mem (a + x) y i m in omega arith))))
       ∙ append-nil (keep seeks (range a x)))
 
   -- ---- two lists end to end
@@ -255,7 +237,7 @@ first-listed threshold numbers sizes bits sound =
     ap (λ n. firstSeeker threshold sizes (range 0 n)) (sound .tables .sizes-fit)
     ∙ same-kept threshold sizes (range 0 (length numbers)) (keep (isThere numbers) (range 0 (length numbers)))
     (keep-same seeks (λ i. isThere numbers i && seeks i) (range 0 (length numbers)) (λ i m. here i (range-mem 0 (length numbers) i m) (isThere numbers i) refl)
-    ∙ sym (keep-keep (isThere numbers) seeks (range 0 (length numbers))))
+    ∙ sym (keep-keep seeks (isThere numbers) (range 0 (length numbers))))
   where
     here : (i : ℕ) → (0 ≤ i) × (i < 0 + length numbers) → (b : Bool) → isThere numbers i ≡ b → seeksAt threshold sizes i ≡ (b && seeksAt threshold sizes i)
     here i r true e = refl

@@ -20,8 +20,9 @@ use Rattle.merge.specs.Tables.{subgroupAt, stillThere, sizeOf, bitsOf, f
 use Rattle.merge.specs.Engine.{isThere, thereIn, stateOf, Sound, Final}
 use Rattle.merge.proofs.Doubles.{reads-back}
 use Rattle.merge.proofs.There.{small-size}
-use Rattle.merge.proofs.Rows.{all-rows, same-rows}
-use Rattle.merge.proofs.Kept.{keep-map, keep-keep, keep-one}
+use Rattle.bitset.proofs.Rows.{all-rows, same-rows}
+use Rattle.merge.proofs.Kept.{keep-one}
+use Rattle.lists.proofs.KeepTests.{keep-map, keep-keep}
 
 -- the subgroup, if it is still there
 found : Bool → Subgroup → Option Subgroup
@@ -38,8 +39,8 @@ module _ (numbers sizes bits : List ℕ) (z : Sound numbers sizes bits) where
   unfolding stillThere thereIn subgroupAt
   still i h =
       ap (least smaller) (
-      keep-map (subgroupAt sizes bits) (λ u. eqb (u .number) i) (keep (isThere numbers) (range 0 (length numbers)))
-      ∙ ap (map (subgroupAt sizes bits)) (keep-keep (isThere numbers) (λ j. eqb j i) (range 0 (length numbers)) ∙ keep-one (isThere numbers) i 0 (length numbers) (omega arith) (omega arith)))
+      keep-map (λ u. eqb (u .number) i) (subgroupAt sizes bits) (keep (isThere numbers) (range 0 (length numbers)))
+      ∙ ap (map (subgroupAt sizes bits)) (keep-keep (λ j. eqb j i) (isThere numbers) (range 0 (length numbers)) ∙ keep-one (isThere numbers) i 0 (length numbers) (omega arith) (omega arith)))
       ∙ one-left (isThere numbers i) i
 
   -- whose number is i, if it is still there

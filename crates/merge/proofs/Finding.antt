@@ -1,25 +1,20 @@
 -- What the two searches find among the candidates of a list is what the definition finds among the subgroups that are there.
-use Prim.Native.Nat.{ℕ, _<_}
-use mathlib.Core.Bool.{Bool, true, false, not, cond}
+use Prim.Native.Nat.{ℕ}
 use mathlib.Core.List.{List, map, map-map}
 use mathlib.Core.Option.{Option, none, some, Option·map}
 use mathlib.Core.Path.{_≡_, refl, sym, ap, _∙_}
 use native.Mathlib.Omega.{arith}
-use lib.Dec.{eqb}
 use lib.Ieee.{Float}
-use lib.ListN.{length}
 use Rattle.lists.specs.Keep.{keep}
 use Rattle.lists.specs.Least.{least}
-use Rattle.lists.specs.Range.{range}
-use Rattle.lists.proofs.Keep.{Each}
 use Rattle.bitset.specs.Entries.{differing}
 use Rattle.merge.specs.Subgroup.{Subgroup, seeks, smaller, nearer}
 use Rattle.merge.specs.Merge.{others}
 use Rattle.merge.specs.Tables.{subgroupAt}
 use Rattle.merge.specs.Search.{seeking, comesFirst, seekerAt, targetAt}
-use Rattle.merge.specs.Engine.{isThere, listed, thereIn, Standing}
+use Rattle.merge.specs.Engine.{listed, thereIn, Standing}
 use Rattle.merge.specs.declared.candidate.Candidate.{Candidate}
-use Rattle.merge.proofs.Kept.{keep-map}
+use Rattle.lists.proofs.KeepTests.{keep-map}
 use Rattle.merge.proofs.Least.{least-map}
 use Rattle.merge.proofs.Next.{seeker-is, target-is, standing}
 use Rattle.merge.proofs.There.{other}
@@ -52,7 +47,7 @@ module _ (sizes bits : List ℕ) where
       unfolding candidate seekerAt thereIn listed subgroupAt seeking seeks comesFirst smaller
       seekers =
           ap (λ l. least comesFirst (keep (seeking threshold) l)) (sym (map-map (candidate (λ u. 0)) (subgroupAt sizes bits) (listed numbers)))
-          ∙ ap (least comesFirst) (keep-map (candidate (λ u. 0)) (seeking threshold) (thereIn numbers sizes bits))
+          ∙ ap (least comesFirst) (keep-map (seeking threshold) (candidate (λ u. 0)) (thereIn numbers sizes bits))
           ∙ least-map smaller comesFirst (candidate (λ u. 0)) (λ x y. refl) (keep (seeks threshold) (thereIn numbers sizes bits))
 
       pub seeker-found : (c : Candidate) → least comesFirst (keep (seeking threshold) (map (seekerAt sizes) (listed numbers))) ≡ some c
@@ -76,7 +71,7 @@ module _ (sizes bits : List ℕ) where
         unfolding candidate far targetAt thereIn listed subgroupAt others comesFirst smaller nearer
         targets =
             ap (least comesFirst) (sym (map-map (candidate far) (subgroupAt sizes bits) (butOne (s .number) (listed numbers))))
-            ∙ ap (λ l. least comesFirst (map (candidate far) l)) (sym (keep-map (subgroupAt sizes bits) (other s) (listed numbers)))
+            ∙ ap (λ l. least comesFirst (map (candidate far) l)) (sym (keep-map (other s) (subgroupAt sizes bits) (listed numbers)))
             ∙ least-map (nearer s) comesFirst (candidate far) (λ x y. refl) (others s (thereIn numbers sizes bits))
 
         pub target-found : (c : Candidate) → least comesFirst (map (targetAt sizes bits (s .bits)) (butOne (s .number) (listed numbers))) ≡ some c

@@ -15,9 +15,10 @@ use Rattle.merge.specs.Subgroup.{Subgroup}
 use Rattle.merge.specs.Merge.{Merging, others, united, joined}
 use Rattle.merge.specs.Tables.{subgroupAt, Mergeable}
 use Rattle.merge.specs.Engine.{isThere, thereIn, stateOf, Sound, Joinable, JoinedTables}
-use Rattle.merge.proofs.Totals.{sum-moved}
+use Rattle.lists.proofs.SumChanged.{sum-moved}
 use Rattle.merge.proofs.There.{other}
-use Rattle.merge.proofs.Kept.{by-number, keep-map, keep-keep, kept-same}
+use Rattle.merge.proofs.Kept.{by-number, kept-same}
+use Rattle.lists.proofs.KeepTests.{keep-map, keep-keep}
 use Rattle.merge.proofs.Uniting.{both, s-in, t-in}
 use Rattle.merge.proofs.Moving.{numbersAfter, sizesAfter, bitsAfter, by-sizes, new-there, size-s, size-other, row-s, row-t, row-away, new-subgroup, same-count, same-sizes, same-bits}
 
@@ -34,9 +35,9 @@ module _ (s t : Subgroup) (numbers sizes bits : List ℕ) (g : Joinable s t numb
       ≡ map (λ i. cond (eqb i (t .number)) (united s t) (f i)) (keep (λ i. isThere numbers i && not (eqb i (s .number))) (range 0 (length numbers)))
   unfolding joined others thereIn subgroupAt f change
   definition =
-      ap (map change) (keep-map f (other s) (keep (isThere numbers) (range 0 (length numbers))))
+      ap (map change) (keep-map (other s) f (keep (isThere numbers) (range 0 (length numbers))))
       ∙ map-map change f (keep (λ i. other s (f i)) (keep (isThere numbers) (range 0 (length numbers))))
-      ∙ ap (map (λ i. change (f i))) (keep-keep (isThere numbers) (λ i. not (eqb i (s .number))) (range 0 (length numbers)))
+      ∙ ap (map (λ i. change (f i))) (keep-keep (λ i. not (eqb i (s .number))) (isThere numbers) (range 0 (length numbers)))
 
   not-s : (i : ℕ) → (isThere numbers i && not (eqb i (s .number))) ≡ true → i ≡ s .number → ⊥
   not-s i e q = false≢true (sym (ap (λ b. isThere numbers i && not b) (eq-eqb i (s .number) q) ∙ and-false (isThere numbers i)) ∙ e)

@@ -1,11 +1,11 @@
--- How many joins there are: each leaves at least one subgroup less and at least one, so there are fewer joins than subgroups, and in the end none is
--- left to make.
+-- How many joins there are: each leaves at least one subgroup less and at least one, so there are fewer joins than subgroups, the bound cuts nothing
+-- short, and in the end none is left to make.
 use Prim.Native.Nat.{ℕ, zero, suc, _+_, _≤_, _<_}
 use mathlib.Core.Bool.{Bool, true, false, not, cond, false≢true}
 use mathlib.Core.List.{List, [], _∷_}
 use mathlib.Core.Option.{Option, none, some}
 use mathlib.Core.Path.{_≡_, refl, sym, ap, _∙_}
-use native.Mathlib.Nat.{lt-of-not-le}
+use native.Mathlib.Nat.{lt-of-not-le, zero-add, suc-add}
 use native.Mathlib.Omega.{arith}
 use borrow.Author.Tests.{eq-eqb}
 use lib.Dec.{eqb}
@@ -141,3 +141,28 @@ module _ (threshold : Float) where
   -- at most one join less than subgroups
   pub joins-below : (most : ℕ) (m : Merging) → 0 < length (m .there) → joinsOf most threshold m < length (m .there)
   joins-below most m h = omega (arith, fewer-joins most m, subgroups-left most m h)
+
+-- ---- enough joins
+
+module _ (threshold : Float) where
+  steps-end : (most : ℕ) (m : Merging) → length (m .there) ≤ most → (extra : ℕ) → mergeSteps (most + extra) threshold m ≡ mergeSteps most threshold m
+  unfolding mergeSteps
+  steps-end zero m h zero = ap (λ (n : ℕ). mergeSteps n threshold m) (zero-add 0)
+  steps-end zero m h (suc extra) =
+      ap (λ (n : ℕ). mergeSteps n threshold m) (zero-add (suc extra)) ∙ go (nextJoin threshold (m .there)) refl
+    where
+      go : (j : Join) → nextJoin threshold (m .there) ≡ j → follow j m (mergeSteps extra threshold) ≡ m
+      go stop e = refl
+      go (joins s t) e = absurd (omega (arith, fewer-left threshold m s t e))
+  steps-end (suc most) m h extra =
+      ap (λ (n : ℕ). mergeSteps n threshold m) (suc-add most extra)
+      ∙ go (nextJoin threshold (m .there)) refl (λ m′ l. steps-end most m′ l extra)
+    where
+      go : (j : Join) → nextJoin threshold (m .there) ≡ j → ((m′ : Merging) → length (m′ .there) ≤ most → mergeSteps (most + extra) threshold m′ ≡ mergeSteps most threshold m′)
+          → follow j m (mergeSteps (most + extra) threshold) ≡ follow j m (mergeSteps most threshold)
+      go stop e rest = refl
+      go (joins s t) e rest = rest (joined s t m) (omega (arith, fewer-left threshold m s t e))
+
+  -- the bound cuts nothing short
+  pub enough-joins : (m : Merging) (extra : ℕ) → mergeSteps (length (m .there) + extra) threshold m ≡ mergeSteps (length (m .there)) threshold m
+  enough-joins m = steps-end (length (m .there)) m (omega arith)

@@ -1,4 +1,4 @@
--- Images of the numbers that pass a test: keeping again, functions and tests that agree, one number alone, and what holds of each.
+-- Images of the numbers that pass a test: functions and tests that agree, one number alone, and what holds of each.
 use Prim.Native.Nat.{ℕ, zero, suc, _+_, _≤_, _<_}
 use mathlib.Core.Bool.{Bool, true, false, _&&_, and-true, and-false}
 use mathlib.Core.List.{List, [], _∷_, map}
@@ -17,30 +17,6 @@ by-number {P} i s same away = go (eqb i s) refl
     go : (b : Bool) → eqb i s ≡ b → P
     go true e = same (eqb-true i s e)
     go false e = away (eqb-false i s e)
-
--- ---- keeping again
-
-module _ {A B : Type 0} (f : A → B) (q : B → Bool) where
-  map-head : (b : Bool) (x : A) (l : List A) → keepHead b (f x) (map f l) ≡ map f (keepHead b x l)
-  unfolding keepHead
-  map-head true x l = refl
-  map-head false x l = refl
-
-  pub keep-map : (l : List A) → keep q (map f l) ≡ map f (keep (λ x. q (f x)) l)
-  unfolding keep
-  keep-map [] = refl
-  keep-map (x ∷ l) = ap (keepHead (q (f x)) (f x)) (keep-map l) ∙ map-head (q (f x)) x (keep (λ x. q (f x)) l)
-
-module _ {A : Type 0} (p q : A → Bool) where
-  keep-head : (b : Bool) (x : A) (l : List A) → keep q (keepHead b x l) ≡ keepHead (b && q x) x (keep q l)
-  unfolding keep keepHead
-  keep-head true x l = refl
-  keep-head false x l = refl
-
-  pub keep-keep : (l : List A) → keep q (keep p l) ≡ keep (λ x. p x && q x) l
-  unfolding keep
-  keep-keep [] = refl
-  keep-keep (x ∷ l) = keep-head (p x) x (keep p l) ∙ ap (keepHead (p x && q x) x) (keep-keep l)
 
 -- ---- what agrees on the numbers from a on
 

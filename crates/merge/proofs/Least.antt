@@ -29,11 +29,6 @@ module _ {A : Type 0} (before : A → A → Bool) where
   unfolding keep
   least-more p l x = ap (least before) (keep-append p l (x ∷ [])) ∙ keep-snoc (p x) (keep p l) x
 
-  pub least-none : (l : List A) → least before l ≡ none → l ≡ []
-  unfolding least
-  least-none [] e = refl
-  least-none (x ∷ l) e = absurd (let z : _≡_ {A = ℕ} 0 1 = cc in omega arith)
-
   -- ---- what holds of each element
   module _ (P : A → Type 0) where
     either : (b : Bool) (x y : A) → P x → P y → P (cond b x y)

@@ -1,12 +1,9 @@
 -- The laws of the definitions of specs/.
 pub mod Doubles
-pub mod Rows
-pub mod Front
 pub mod Least
 pub mod There
 pub mod Kept
 pub mod Looking
-pub mod Totals
 pub mod Uniting
 pub mod Moving
 pub mod Joining
@@ -21,6 +18,10 @@ pub mod Starting
 pub mod Areas
 pub mod Refusals
 pub mod Joins
+pub mod Invariants
+pub mod NumbersAscend
+pub mod BitsHeld
+pub mod FinalNumbers
 pub mod Union
 pub mod Keeping
 pub mod Laws

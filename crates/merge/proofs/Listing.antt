@@ -1,8 +1,8 @@
 -- The list of the numbers that are still there: what stands in it, and the list after a join.
-use Prim.Native.Nat.{ℕ, suc, _+_, _*_, _-_, _^_, _≤_, _<_}
-use mathlib.Core.Bool.{Bool, true, not, _&&_}
-use mathlib.Core.List.{List, map, List·Memᴰ}
-use mathlib.Core.Path.{_≡_, refl, sym, ap, _∙_, subst}
+use Prim.Native.Nat.{ℕ, _-_, _<_}
+use mathlib.Core.Bool.{true, not, _&&_}
+use mathlib.Core.List.{List, List·Memᴰ}
+use mathlib.Core.Path.{_≡_, sym, ap, _∙_}
 use native.Mathlib.Nat.{zero-add}
 use native.Mathlib.Omega.{arith}
 use borrow.Author.Tests.{eq-eqb}
@@ -11,8 +11,7 @@ use lib.ListN.{length, getD}
 use Rattle.lists.specs.Keep.{keep}
 use Rattle.lists.specs.Range.{range}
 use Rattle.lists.proofs.Distinct.{Distinct}
-use Rattle.lists.proofs.KeepLength.{keep-le}
-use Rattle.lists.proofs.KeepTests.{keep-same}
+use Rattle.lists.proofs.KeepTests.{keep-same, keep-keep}
 use Rattle.lists.proofs.Members.{range-mem, mem-range, keep-mem, mem-keep}
 use Rattle.lists.proofs.Position.{getD-mem}
 use Rattle.lists.proofs.Range.{length-range, getD-range}
@@ -21,7 +20,7 @@ use Rattle.merge.specs.Subgroup.{Subgroup}
 use Rattle.merge.specs.Tables.{Mergeable}
 use Rattle.merge.specs.Search.{Readable}
 use Rattle.merge.specs.Engine.{isThere, listed, Joinable, JoinedTables}
-use Rattle.merge.proofs.Kept.{keep-keep, all-kept}
+use Rattle.merge.proofs.Kept.{all-kept}
 use Rattle.merge.proofs.There.{small-size}
 use Rattle.merge.proofs.Joining.{there-now, joined-count}
 use Rattle.merge.proofs.Removing.{butOne}
@@ -40,10 +39,6 @@ module _ (numbers : List ℕ) where
   in-listed i m =
       let r = range-mem 0 (length numbers) i (keep-mem (isThere numbers) (range 0 (length numbers)) i m .0) in
       omega arith
-
-  pub listed-few : length (listed numbers) ≤ length numbers
-  unfolding listed
-  listed-few = omega (arith, keep-le (isThere numbers) (range 0 (length numbers)), length-range 0 (length numbers))
 
 -- where each has its own number, all are listed
 pub listed-all : (n : List ℕ) (k : ℕ) → n ≡ range 0 k → listed n ≡ n
@@ -69,4 +64,4 @@ listed-joined s t numbers sizes bits g n z b after =
     ap (λ k. keep (isThere n) (range 0 k)) (joined-count s t numbers sizes bits g n z b after)
     ∙ keep-same (isThere n) (λ i. isThere numbers i && not (eqb i (s .number))) (range 0 (length numbers))
     (λ i m. let r = range-mem 0 (length numbers) i m in there-now s t numbers sizes bits g n z b after i (omega arith))
-    ∙ sym (keep-keep (isThere numbers) (λ i. not (eqb i (s .number))) (range 0 (length numbers)))
+    ∙ sym (keep-keep (λ i. not (eqb i (s .number))) (isThere numbers) (range 0 (length numbers)))

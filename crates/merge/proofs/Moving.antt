@@ -19,7 +19,7 @@ use Rattle.merge.specs.Tables.{subgroupAt}
 use Rattle.merge.specs.Search.{vanished}
 use Rattle.merge.specs.Engine.{isThere, Joinable, renamed, withSize, withBits}
 use Rattle.merge.proofs.Doubles.{reads-back}
-use Rattle.merge.proofs.Rows.{length-with-row, row-same, row-other}
+use Rattle.bitset.proofs.Rows.{length-with-row, row-same, row-other}
 use Rattle.merge.proofs.There.{in-row}
 use Rattle.merge.proofs.Uniting.{both, s-in, t-in, both-small, united-size}
 

@@ -1,15 +1,17 @@
 -- The tests of the call, in its order: which number each condition gives once those before it do not apply, and what is known once none does.
 use Prim.Native.Nat.{ℕ, _*_, _≤_}
-use mathlib.Core.Bool.{Bool, true, false, _||_, cond}
-use mathlib.Core.Path.{_≡_, refl, sym, _∙_}
-use native.Mathlib.Omega.{arith}
-use borrow.Author.Tests.{ltb-false, eqb-true, not-false}
-use lib.Dec.{ltb, eqb}
+use mathlib.Core.Bool.{Bool, true, false, _||_}
+use mathlib.Core.Path.{_≡_, refl}
+use borrow.Author.Tests.{ltb-false}
+use lib.Dec.{ltb}
 use lib.Ieee.{isNan}
 use lib.ListN.{length}
 use Rattle.lists.proofs.Below.{neither}
-use Rattle.refusal.specs.Outcome.{Outcome, refused, accepted, outcome, ascending}
+use Rattle.refusal.specs.Outcome.{refused, ascending}
 use Rattle.refusal.specs.Counts.{moduleLimit, entryLimit, badLength}
+use Rattle.refusal.proofs.Lengths.{right-length, first-length}
+use Rattle.refusal.proofs.Calls.{refuses-call, accepts-call}
+use Rattle.refusal.proofs.Ladder.{Row, none-applies, applies, passes, row}
 use Rattle.whole.specs.Total.{totalExceeds}
 use Rattle.whole.proofs.Total as total
 use Rattle.bitset.specs.Entries.{anyBeyond}
@@ -21,12 +23,10 @@ pub tests-ascend : (g : Given) (a : Areas) → ascending (mergeTests g a) ≡ tr
 unfolding mergeTests ascending
 tests-ascend g a = refl
 
-never : (n : ℕ) → _≡_ {A = Outcome Unit} (refused n) (accepted tt) → ⊥
-never n e = let z : _≡_ {A = ℕ} 0 1 = cc in omega arith
-
 module _ (g : Given) (a : Areas) where
-  refuses : (n : ℕ) → mergeOutcome g a ≡ refused n → MergeCall g (Refused n) a a
-  refuses n e = record { number = sym e; refusal = λ m q. refl; answered = λ q. absurd (never n (sym e ∙ q)) }
+  refuses : (n : ℕ) → Row {A = Unit {0}} tt (mergeTests g a) (refused n) → MergeCall g (Refused n) a a
+  unfolding mergeOutcome
+  refuses n r = refuses-call a (row r)
 
   -- ---- the conditions that have several parts
 
@@ -39,50 +39,48 @@ module _ (g : Given) (a : Areas) where
   abbrev pub bad-12 : Bool
   bad-12 = ltb (length (a .numbers)) (g .k) || (ltb (length (a .sizes)) (g .k) || ltb (length (a .bits)) (4 * g .k))
 
-  outcome-is : mergeOutcome g a
-      ≡ cond bad-1 (refused 1)
-      (cond bad-2 (refused 2)
-      (cond (totalExceeds (g .sizes)) (refused 6)
-      (cond (isNan (g .threshold)) (refused 8) (cond (anyBeyond (g .entries) (g .bits) (g .k)) (refused 9) (cond bad-12 (refused 12) (accepted tt))))))
-  unfolding mergeOutcome mergeTests outcome
-  outcome-is = refl
-
   -- ---- one test after the other
 
   pub refuses-1 : bad-1 ≡ true → MergeCall g (Refused 1) a a
-  refuses-1 e = refuses 1 (outcome-is ∙ rw e)
+  unfolding mergeTests
+  refuses-1 e = refuses 1 (applies e)
 
   module _ (p1 : bad-1 ≡ false) where
     pub few : g .k ≤ moduleLimit
     few = ltb-false moduleLimit (g .k) (neither (ltb moduleLimit (g .k)) (ltb entryLimit (g .entries)) p1 .0)
 
     pub refuses-2 : bad-2 ≡ true → MergeCall g (Refused 2) a a
-    refuses-2 e = refuses 2 (outcome-is ∙ rw (p1, e))
+    unfolding mergeTests
+    refuses-2 e = refuses 2 (passes p1 (applies e))
 
     module _ (p2 : bad-2 ≡ false) where
-      fit : (badLength (g .sizes) (g .k) ≡ false) × (badLength (g .bits) (4 * g .k) ≡ false)
-      fit = neither (badLength (g .sizes) (g .k)) (badLength (g .bits) (4 * g .k)) p2
+      fit : (length (g .sizes) ≡ g .k) × (badLength (g .bits) (4 * g .k) ≡ false)
+      fit = first-length (length (g .sizes)) (g .k) _ p2
 
       pub sizes-fit : length (g .sizes) ≡ g .k
-      sizes-fit = eqb-true (length (g .sizes)) (g .k) (not-false (eqb (length (g .sizes)) (g .k)) (fit .0))
+      sizes-fit = fit .0
 
       pub bits-fit : length (g .bits) ≡ 4 * g .k
-      bits-fit = eqb-true (length (g .bits)) (4 * g .k) (not-false (eqb (length (g .bits)) (4 * g .k)) (fit .1))
+      bits-fit = right-length (length (g .bits)) (4 * g .k) (fit .1)
 
       pub refuses-6 : totalExceeds (g .sizes) ≡ true → MergeCall g (Refused 6) a a
-      refuses-6 e = refuses 6 (outcome-is ∙ rw (p1, p2, e))
+      unfolding mergeTests
+      refuses-6 e = refuses 6 (passes p1 (passes p2 (applies e)))
 
       module _ (p6 : totalExceeds (g .sizes) ≡ false) where
         pub refuses-8 : isNan (g .threshold) ≡ true → MergeCall g (Refused 8) a a
-        refuses-8 e = refuses 8 (outcome-is ∙ rw (p1, p2, p6, e))
+        unfolding mergeTests
+        refuses-8 e = refuses 8 (passes p1 (passes p2 (passes p6 (applies e))))
 
         module _ (p8 : isNan (g .threshold) ≡ false) where
           pub refuses-9 : anyBeyond (g .entries) (g .bits) (g .k) ≡ true → MergeCall g (Refused 9) a a
-          refuses-9 e = refuses 9 (outcome-is ∙ rw (p1, p2, p6, p8, e))
+          unfolding mergeTests
+          refuses-9 e = refuses 9 (passes p1 (passes p2 (passes p6 (passes p8 (applies e)))))
 
           module _ (p9 : anyBeyond (g .entries) (g .bits) (g .k) ≡ false) where
             pub refuses-12 : bad-12 ≡ true → MergeCall g (Refused 12) a a
-            refuses-12 e = refuses 12 (outcome-is ∙ rw (p1, p2, p6, p8, p9, e))
+            unfolding mergeTests
+            refuses-12 e = refuses 12 (passes p1 (passes p2 (passes p6 (passes p8 (passes p9 (applies e))))))
 
             -- ---- none applies
             module _ (p12 : bad-12 ≡ false) where
@@ -100,8 +98,6 @@ module _ (g : Given) (a : Areas) where
                     bits-room = ltb-false (length (a .bits)) (4 * g .k) (two .1);
                   }
 
-              accepts : mergeOutcome g a ≡ accepted tt
-              accepts = outcome-is ∙ rw (p1, p2, p6, p8, p9, p12)
-
               pub done : (after : Areas) → after ≡ written g a → MergeCall g Done a after
-              done after e = record { number = sym accepts; refusal = λ m q. absurd (never m (sym q ∙ accepts)); answered = λ q. e }
+              unfolding mergeOutcome mergeTests
+              done after e = accepts-call (row (passes p1 (passes p2 (passes p6 (passes p8 (passes p9 (passes p12 none-applies))))))) (λ _. e)

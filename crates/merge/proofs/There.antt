@@ -16,7 +16,7 @@ use Rattle.merge.specs.Subgroup.{Subgroup}
 use Rattle.merge.specs.Tables.{Mergeable}
 use Rattle.merge.specs.Search.{looked}
 use Rattle.merge.specs.Engine.{InRow}
-use Rattle.merge.proofs.Totals.{one-of-sum}
+use Rattle.lists.proofs.SumChanged.{one-of-sum}
 use Rattle.merge.proofs.Least.{least-snoc, least-more}
 
 length-zero : (l : List ℕ) → length l ≡ 0 → l ≡ []

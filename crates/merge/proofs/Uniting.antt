@@ -14,8 +14,8 @@ use Rattle.merge.specs.Tables.{subgroupAt}
 use Rattle.merge.specs.Search.{vanished}
 use Rattle.merge.specs.Engine.{Joinable, JoinedTables, renamed, withSize, withBits, InRow}
 use Rattle.merge.proofs.Doubles.{is-whole}
-use Rattle.merge.proofs.Totals.{two-of-sum}
-use Rattle.merge.proofs.Rows.{length-with-row}
+use Rattle.lists.proofs.SumChanged.{two-of-sum}
+use Rattle.bitset.proofs.Rows.{length-with-row}
 use Rattle.merge.proofs.There.{in-row}
 
 -- the size of the two together

@@ -7,11 +7,11 @@ use lib.Dec.{ltb}
 use lib.Ieee.{Float, isNan}
 use lib.ListN.{length, drop}
 use Rattle.refusal.specs.Outcome.{Outcome, refused, accepted, Test, test, outcome}
+use Rattle.refusal.specs.Call.{Call, whole}
 use Rattle.refusal.specs.Counts.{moduleLimit, entryLimit, badLength}
 use Rattle.lists.specs.Sum.{sum}
 use Rattle.whole.specs.Total.{totalLimit, totalExceeds}
 use Rattle.bitset.specs.Entries.{anyBeyond}
-use Rattle.merge.specs.Merge.{Merging}
 use Rattle.merge.specs.Tables.{mergeOf, finalSizes, finalBits}
 use Rattle.merge.specs.declared.MergeAnswer.{MergeAnswer}
 use Rattle.merge.specs.declared.MergeAnswer.the-variants.{Refused, Done}
@@ -74,7 +74,5 @@ pub record Ready (k : ℕ) (sizes bits : List ℕ) (areas : Areas) : Type 0 wher
   pub bits-room : 4 * k ≤ length (areas .bits)
 
 -- the call: its answer, and the content of the lent areas after it
-pub record MergeCall (g : Given) (answer : MergeAnswer) (before after : Areas) : Type 0 where
-  pub number : outcomeOf answer ≡ mergeOutcome g before
-  pub refusal : (n : ℕ) → mergeOutcome g before ≡ refused n → after ≡ before
-  pub answered : mergeOutcome g before ≡ accepted tt → after ≡ written g before
+abbrev pub MergeCall : Given → MergeAnswer → Areas → Areas → Type 0
+MergeCall g answer before after = Call whole (mergeOutcome g before) (outcomeOf answer) before after (λ _. after ≡ written g before)

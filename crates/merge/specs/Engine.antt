@@ -1,15 +1,15 @@
 -- What the engine's tables say between two joins: a subgroup is still there just where its number is its own.
 use Prim.Native.Nat.{ℕ, _+_, _*_, _-_, _<_, _≤_}
 use mathlib.Core.Bool.{Bool, true, false, cond}
-use mathlib.Core.List.{List, [], _∷_, _++_, map}
+use mathlib.Core.List.{List, map}
 use mathlib.Core.Path.{_≡_}
 use lib.Dec.{eqb}
 use lib.Ieee.{Float, toUnsigned}
-use lib.ListN.{length, getD, set, take, drop}
+use lib.ListN.{length, getD, set, take}
 use Rattle.lists.specs.Keep.{keep}
 use Rattle.lists.specs.Range.{range}
-use Rattle.bitset.specs.Entries.{wordAt, empty, rowOf}
-use Rattle.bitset.specs.declared.entries.BitSet.{BitSet}
+use Rattle.bitset.specs.Entries.{empty, rowOf}
+use Rattle.bitset.specs.Rows.{withRow}
 use Rattle.merge.specs.Subgroup.{Subgroup}
 use Rattle.merge.specs.Merge.{Merging, Join, stop, joins, nextJoin, follow, united, mergeSteps}
 use Rattle.merge.specs.Tables.{subgroupAt, finalSizes, finalBits, Mergeable}
@@ -48,9 +48,6 @@ renamed s t n = cond (eqb n s) t n
 -- a subgroup written to its row
 abbrev pub withSize : List ℕ → Subgroup → List ℕ
 withSize sizes u = set sizes (u .number) (toUnsigned 64 (u .size))
-
-unfoldable pub withRow : List ℕ → ℕ → BitSet → List ℕ
-withRow table i s = take (4 * i) table ++ ((wordAt s 0 ∷ wordAt s 1 ∷ wordAt s 2 ∷ wordAt s 3 ∷ []) ++ drop (4 * i + 4) table)
 
 abbrev pub withBits : List ℕ → Subgroup → List ℕ
 withBits bits u = withRow bits (u .number) (u .bits)

@@ -27,7 +27,8 @@ fn join(
     target: Subgroup,
 )
     requires { ⌜ Joinable (held seeker) (held target) (now numbers) (now sizes) (now bits) ⌝ }
-    ensures { λ _. ⌜ JoinedTables (held seeker) (held target) (now (numbers .entry)) (now (sizes .entry)) (now (bits .entry)) (now (numbers .exit)) (now (sizes .exit)) (now (bits .exit)) ⌝ }
+    ensures { λ _. ⌜ JoinedTables (held seeker) (held target) (now (numbers .entry)) (now (sizes .entry)) (now (bits .entry))
+        (now (numbers .exit)) (now (sizes .exit)) (now (bits .exit)) ⌝ }
 {
     let from = seeker.number;
     let to = target.number;
@@ -81,9 +82,10 @@ fn join_all(
 )
     requires { ⌜ Sound (now numbers) (now sizes) (now bits) × (now numbers ≡ range 0 (length (now there)))
         × (length (now sizes) ≤ 16 * length (now heads)) × (16 * length (now heads) < length (now sizes) + 16) ⌝ }
-    ensures { λ _. ⌜ Turns threshold (now (numbers .entry)) (now (sizes .entry)) (now (bits .entry)) (now (numbers .exit)) (now (sizes .exit)) (now (bits .exit)) ⌝ }
+    ensures { λ _. ⌜ Turns threshold (now (numbers .entry)) (now (sizes .entry)) (now (bits .entry))
+        (now (numbers .exit)) (now (sizes .exit)) (now (bits .exit)) ⌝ }
 {
-    lists::fill_range(there);
+    lists::fill::fill_range(there);
     fill_heads(heads, sizes, threshold);
     let mut left = there.len();
     while 0 < left {
@@ -97,9 +99,11 @@ fn join_all(
 // The merge in place: sizes and bits are those of the subgroups on entry, and the numbers are written.
 pub fn merge_in_place(numbers: &mut [u32], sizes: &mut [u64], bits: &mut [u64], threshold: f64)
     requires { ⌜ Mergeable (now numbers) (now sizes) (now bits) ⌝ }
-    ensures { λ _. ⌜ Final (length (now (numbers .entry))) (mergeOf (length (now (numbers .entry))) (now (sizes .entry)) (now (bits .entry)) threshold) (now (numbers .exit)) (now (sizes .exit)) (now (bits .exit)) ⌝ }
+    ensures { λ _. ⌜ Final (length (now (numbers .entry)))
+        (mergeOf (length (now (numbers .entry))) (now (sizes .entry)) (now (bits .entry)) threshold)
+        (now (numbers .exit)) (now (sizes .exit)) (now (bits .exit)) ⌝ }
 {
-    lists::fill_range(numbers);
+    lists::fill::fill_range(numbers);
     let count = numbers.len();
     if count <= 1 {
         return;

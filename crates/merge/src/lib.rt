@@ -8,6 +8,7 @@ pub mod search;
 pub mod subgroup;
 pub mod tables;
 
+use lists::copy::copy_numbers;
 ghost use mathlib.Core.Path.{_≡_};
 ghost use Prim.Native.Nat.{ℕ};
 ghost use Rattle.merge.specs.Call.{written, Ready, MergeCall};
@@ -28,11 +29,25 @@ fn merge_into(
     final_bits: &mut [u64],
 )
     requires { ⌜ Ready k (now sizes) (now bits) (record { numbers = now «final_numbers»; sizes = now «final_sizes»; bits = now «final_bits» }) ⌝ }
-    ensures { λ _. ⌜ ((entries : ℕ) → record { numbers = now («final_numbers» .exit); sizes = now («final_sizes» .exit); bits = now («final_bits» .exit) } ≡ written (record { k = k; entries = entries; sizes = now (sizes .entry); bits = now (bits .entry); threshold = threshold }) (record { numbers = now («final_numbers» .entry); sizes = now («final_sizes» .entry); bits = now («final_bits» .entry) })) ⌝ }
+    ensures { λ _. ⌜ ((entries : ℕ) → record {
+      numbers = now («final_numbers» .exit);
+      sizes = now («final_sizes» .exit);
+      bits = now («final_bits» .exit);
+    } ≡ written (record {
+      k = k;
+      entries = entries;
+      sizes = now (sizes .entry);
+      bits = now (bits .entry);
+      threshold = threshold;
+    }) (record {
+      numbers = now («final_numbers» .entry);
+      sizes = now («final_sizes» .entry);
+      bits = now («final_bits» .entry);
+    })) ⌝ }
 {
     let words = 4 * k;
-    tables::copy(&mut final_sizes[..k], sizes);
-    tables::copy(&mut final_bits[..words], bits);
+    copy_numbers(sizes, &mut final_sizes[..k]);
+    copy_numbers(bits, &mut final_bits[..words]);
     engine::merge_in_place(
         &mut final_numbers[..k],
         &mut final_sizes[..k],
@@ -52,7 +67,21 @@ pub fn merge_entries_aware_subgroups(
     final_sizes: &mut [u64],
     final_bits: &mut [u64],
 ) -> MergeAnswer
-    ensures { λ r. ⌜ MergeCall (record { k = k; entries = entries; sizes = now (sizes .entry); bits = now (bits .entry); threshold = threshold }) r (record { numbers = now («final_numbers» .entry); sizes = now («final_sizes» .entry); bits = now («final_bits» .entry) }) (record { numbers = now («final_numbers» .exit); sizes = now («final_sizes» .exit); bits = now («final_bits» .exit) }) ⌝ }
+    ensures { λ r. ⌜ MergeCall (record {
+      k = k;
+      entries = entries;
+      sizes = now (sizes .entry);
+      bits = now (bits .entry);
+      threshold = threshold;
+    }) r (record {
+      numbers = now («final_numbers» .entry);
+      sizes = now («final_sizes» .entry);
+      bits = now («final_bits» .entry);
+    }) (record {
+      numbers = now («final_numbers» .exit);
+      sizes = now («final_sizes» .exit);
+      bits = now («final_bits» .exit);
+    }) ⌝ }
 {
     if conditions::counts_exceed(k, entries) {
         return MergeAnswer::Refused(refusal::COUNT);

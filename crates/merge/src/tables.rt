@@ -1,17 +1,17 @@
 // Subgroups in tables: a size and four words of entry bits a row.
 use crate::subgroup::Subgroup;
-use bitset::entries::BitSet;
 use bitset::table::row;
+use bitset::table::store_row;
 ghost use mathlib.Core.Path.{_≡_};
 ghost use mathlib.Core.Bool.{true};
 ghost use mathlib.Core.List.{map};
-ghost use Prim.Native.Nat.{_*_, _+_, _≤_, _<_, _^_};
+ghost use Prim.Native.Nat.{_≤_, _<_, _^_};
 ghost use lib.ListN.{length, getD};
 ghost use lib.Ieee.{binary64, inUnsigned};
 ghost use Rattle.whole.specs.Double.{toF64};
 ghost use Rattle.merge.specs.Tables.{subgroupAt};
 ghost use Rattle.merge.specs.Search.{held};
-ghost use Rattle.merge.specs.Engine.{renamed, withSize, withRow, withBits, InRow};
+ghost use Rattle.merge.specs.Engine.{renamed, withSize, withBits, InRow};
 
 // The size of row i as a double. It is at most 2^53, so that it is an i64 too, which becomes a double in one step.
 pub fn size_at(sizes: &[u64], i: usize) -> f64
@@ -33,19 +33,6 @@ pub fn subgroup_at(sizes: &[u64], bits: &[u64], i: usize) -> Subgroup
         size: size_at(sizes, i),
         bits: row(bits, i),
     }
-}
-
-// Writes the four words of row i.
-fn store_row(table: &mut [u64], i: usize, set: BitSet)
-    requires { ⌜ 4 * i + 4 ≤ length (now table) ⌝ }
-    ensures { λ _. ⌜ now (table .exit) ≡ withRow (now (table .entry)) i set ⌝ }
-{
-    let words = set.words;
-    let at = 4 * i;
-    table[at] = words[0];
-    table[at + 1] = words[1];
-    table[at + 2] = words[2];
-    table[at + 3] = words[3];
 }
 
 // Writes a subgroup to its row: the size as a whole number again, which it is, and the bits.
@@ -76,18 +63,6 @@ pub fn rename(numbers: &mut [u32], from: u32, to: u32)
     let mut i = 0;
     while i < numbers.len() {
         numbers[i] = renamed(numbers[i], from, to);
-        i = i + 1;
-    }
-}
-
-// Copies a table into an area of its length.
-pub fn copy(area: &mut [u64], table: &[u64])
-    requires { ⌜ length (now area) ≡ length (now table) ⌝ }
-    ensures { λ _. ⌜ now (area .exit) ≡ now (table .entry) ⌝ }
-{
-    let mut i = 0;
-    while i < area.len() {
-        area[i] = table[i];
         i = i + 1;
     }
 }

@@ -15,8 +15,8 @@ use Rattle.lists.proofs.Members.{keep-mem, mem-keep}
 use Rattle.lists.proofs.Position.{mem-getD}
 use Rattle.flags.specs.Flags.{listed, assigned, eligible, eligibleAt}
 use Rattle.bitset.specs.Word.{bit}
-use Rattle.records.specs.Marks.{stored}
-use Rattle.records.proofs.Stored.{stored-either, stored-length, stored-on}
+use Rattle.lists.specs.Stored.{stored}
+use Rattle.lists.proofs.Stored.{stored-either, stored-length, stored-on}
 use Rattle.capture.specs.Reached.{Reached, start, further, Marks}
 use Rattle.capture.specs.Capture.{Eligible, Names}
 use Rattle.capture.proofs.Reached.{reached-eligible}

@@ -14,7 +14,7 @@ use Rattle.lists.proofs.Below.{both, none-of}
 use Rattle.lists.proofs.Members.{keep-mem}
 use Rattle.lists.proofs.Position.{getD-mem}
 use Rattle.lists.proofs.Sort.{sort-mem}
-use Rattle.sorts.proofs.Halves.{sort-length}
+use Rattle.lists.proofs.Rearranged.{sort-length}
 use Rattle.grouping.specs.Given.{Given, answerOf}
 use Rattle.grouping.specs.Tree.{placesOf}
 use Rattle.grouping.specs.Conditions.{badAnswer}

@@ -7,7 +7,7 @@ use mathlib.Core.Path.{_≡_}
 use lib.Dec.{eqb}
 use lib.ListN.{length, getD}
 use Rattle.lists.specs.Below.{anyBelow}
-use Rattle.records.specs.Marks.{stored}
+use Rattle.lists.specs.Stored.{stored}
 use Rattle.capture.specs.Capture.{Eligible, Names}
 use Rattle.options.specs.declared.Settings.{Settings}
 

@@ -1,5 +1,5 @@
 // Closed sets: a set that is in chunks whole is passed over by the walks of later sets.
-use capture::store::store_bytes;
+use lists::store::store_bytes;
 use options::Settings;
 use sets::built::build_set;
 ghost use mathlib.Core.Path.{_≡_};
@@ -17,18 +17,6 @@ pub fn can_close(settings: Settings) -> bool
         return false;
     }
     settings.recursive
-}
-
-// The flag bytes as they are at first.
-pub fn copy_flags(flags: &[u8], live: &mut [u8])
-    requires { ⌜ length (now live) ≡ length (now flags) ⌝ }
-    ensures { λ _. ⌜ now (live .exit) ≡ now (flags .entry) ⌝ }
-{
-    let mut i = 0;
-    while i < live.len() {
-        live[i] = flags[i];
-        i = i + 1;
-    }
 }
 
 // The set of one name. A group whose sets can be closed walks past the closed ones, and any other through all eligible modules.

@@ -1,5 +1,4 @@
 -- The laws of the definitions of specs/, and what holds on each turn of the loop that cuts.
-pub mod Mapped
 pub mod Filled
 pub mod Stored
 pub mod Totals

@@ -1,7 +1,7 @@
 -- Laws of chains: one record more, what more fuel gives once a chain has ended, the range of the records on a chain, and what they pass on.
 use Prim.Native.Nat.{ℕ, zero, suc, _+_, _≤_}
 use mathlib.Core.Bool.{Bool, true, false, _||_, false≢true}
-use mathlib.Core.List.{List, [], _∷_, List·Memᴰ, List·Memᴰ·head, List·Memᴰ·tail, List·Memᴰ·cases-cons, List·Memᴰ·not-nil}
+use mathlib.Core.List.{List, _∷_, List·Memᴰ, List·Memᴰ·head, List·Memᴰ·tail, List·Memᴰ·cases-cons, List·Memᴰ·not-nil}
 use mathlib.Core.Logic.{_⊎_, inl, inr, ⊎-elim}
 use mathlib.Core.Path.{_≡_, refl, sym, ap, _∙_, subst}
 use native.Mathlib.Decide.{ℕ-discrete}
@@ -13,11 +13,6 @@ use lib.ListN.{getD}
 use Rattle.records.specs.Chain.{link, chainFrom, ended}
 
 -- ---- one record
-
-pub chain-end : (next : List ℕ) (fuel : ℕ) → chainFrom next fuel 0 ≡ []
-unfolding chainFrom link
-chain-end next zero = refl
-chain-end next (suc fuel) = refl
 
 pub chain-step : (next : List ℕ) (fuel r : ℕ) → (r ≡ 0 → ⊥) → chainFrom next (suc fuel) r ≡ r ∷ chainFrom next fuel (getD next r 0)
 unfolding chainFrom link

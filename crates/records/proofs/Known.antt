@@ -9,10 +9,12 @@ use native.Mathlib.Nat.{not-suc-le-zero}
 use native.Mathlib.Omega.{arith}
 use lib.ListN.{getD, set, replicate, length-replicate, length-set}
 use Rattle.records.specs.Chain.{chainFrom, ended}
-use Rattle.records.specs.Marks.{stored, ChainMarks, Known}
+use Rattle.records.specs.Marks.{ChainMarks, Known}
+use Rattle.lists.specs.Stored.{stored}
 use Rattle.records.proofs.Chain.{along, chain-in, ended-end, ended-out, ended-step, rest-ended}
 use Rattle.records.proofs.Ends.{ends-within}
-use Rattle.records.proofs.Stored.{zeros, one-stored, stored-either, chain-marked}
+use Rattle.records.proofs.ChainMarks.{chain-marked}
+use Rattle.lists.proofs.Stored.{zeros, one-stored, stored-either}
 
 module _ (next : List ℕ) (d : ℕ) where
   -- a table of zeros with zero marked

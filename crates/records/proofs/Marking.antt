@@ -7,9 +7,11 @@ use mathlib.Core.Path.{_≡_, refl, ap, _∙_}
 use native.Mathlib.Omega.{arith}
 use lib.ListN.{length, getD, set, length-set}
 use Rattle.records.specs.Chain.{chainFrom, ended}
-use Rattle.records.specs.Marks.{stored, ChainMarks}
+use Rattle.records.specs.Marks.{ChainMarks}
+use Rattle.lists.specs.Stored.{stored}
 use Rattle.records.proofs.Chain.{chain-rest, rest-ended}
-use Rattle.records.proofs.Stored.{unmarked-some, stored-same, marks-next, marks-from, rest-marked}
+use Rattle.records.proofs.ChainMarks.{unmarked-some, marks-next, marks-from, rest-marked}
+use Rattle.lists.proofs.Stored.{stored-same}
 
 -- from record r₀ the loop has come to record r
 pub record Marking (next : List ℕ) (d : ℕ) (marks₀ : List ℕ) (r₀ : ℕ) (marks : List ℕ) (r : ℕ) : Type 0 where

@@ -1,21 +1,16 @@
 -- Marks of records along chains, a byte for each record, by which a chain is left where it joins one that was gone along before.
 use Prim.Native.Nat.{ℕ, _≤_, _<_}
 use mathlib.Core.Bool.{true}
-use mathlib.Core.List.{List, [], _∷_}
+use mathlib.Core.List.{List}
 use mathlib.Core.Logic.{_⊎_}
 use mathlib.Core.Path.{_≡_}
-use lib.ListN.{length, getD, replicate, set}
+use lib.ListN.{length, getD, replicate}
 use Rattle.records.specs.Chain.{ended}
 
 -- a byte for each of d records and for zero, none of them marked
 pub record Unmarked (marks : List ℕ) (d : ℕ) : Type 0 where
   pub room : d < length marks
   pub clear : marks ≡ replicate (length marks) 0
-
--- the same byte stored for each record of a list
-unfoldable pub stored : ℕ → List ℕ → List ℕ → List ℕ
-stored v [] marks = marks
-stored v (r ∷ rs) marks = stored v rs (set marks r v)
 
 -- Each byte is 1 or 0. Zero, which ends a chain, is marked, and marks go on along a chain: the next of a marked record is marked too, or is
 -- the record `at` up to which a chain is marked so far. With zero for `at` no chain is left off.

@@ -4,7 +4,8 @@ ghost use mathlib.Core.Bool.{false};
 ghost use Prim.Native.Nat.{_+_, _≤_};
 ghost use lib.ListN.{length};
 ghost use Rattle.records.specs.Chain.{chainFrom};
-ghost use Rattle.records.specs.Marks.{stored, Unmarked, KnowReady};
+ghost use Rattle.records.specs.Marks.{Unmarked, KnowReady};
+ghost use Rattle.lists.specs.Stored.{stored};
 ghost use Rattle.records.specs.Bad.{badFirst, badRecord, badChain, badRecords, RecordTables, ChainTables};
 
 // A first record above d.

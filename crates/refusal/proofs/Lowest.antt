@@ -1,15 +1,16 @@
 -- Where a call's order ascends, the number that it answers is the lowest of those that apply, and it is accepted just where none applies.
-use Prim.Native.Nat.{ℕ, _<_, _≤_}
-use mathlib.Core.Bool.{Bool, true, false, cond, _&&_, true≢false, false≢true}
+use Prim.Native.Nat.{ℕ, _≤_}
+use mathlib.Core.Bool.{Bool, true, false, _&&_, false≢true}
 use mathlib.Core.List.{List, [], _∷_}
-use mathlib.Core.Path.{_≡_, refl, sym, ap, _∙_, subst}
-use native.Mathlib.Nat.{le-refl, le-of-lt, lt-of-lt-of-le, le-of-eq}
+use mathlib.Core.Path.{_≡_, refl, subst}
+use native.Mathlib.Nat.{le-refl, le-of-lt}
 use borrow.Author.Tests.{ltb-true}
 use lib.Dec.{ltb}
 use native.Mathlib.Omega.{arith}
-use Rattle.refusal.specs.Outcome.{Outcome, refused, accepted, Test, test, outcome, ascending, Applies, here, there}
+use Rattle.refusal.specs.Outcome.{refused, accepted, Test, test, outcome, ascending, Applies, here, there}
+use Rattle.refusal.proofs.Calls.{never-both}
 
-both : (a b : Bool) → (a && b) ≡ true → (a ≡ true) × (b ≡ true)
+pub both : (a b : Bool) → (a && b) ≡ true → (a ≡ true) × (b ≡ true)
 both true b e = (refl, e)
 both false b e = absurd (false≢true e)
 
@@ -41,9 +42,6 @@ refuses a n (here {m} {b} {ts} e t) = (m, rw t)
 refuses a n (there {t = test m true} {ts} p) = (m, refl)
 refuses a n (there {t = test m false} {ts} p) = refuses a n p
 
-distinct : {A : Type 0} (a : A) (n : ℕ) → accepted a ≡ refused n → ⊥
-distinct a n e = let z : _≡_ {A = ℕ} 0 1 = cc in omega arith
-
 not-false : (n m : ℕ) {ts : List Test} → Applies n (test m false ∷ ts) → Applies n ts
 not-false n m (here e t) = absurd (false≢true t)
 not-false n m (there p) = p
@@ -63,7 +61,7 @@ tail-ascends m b (test n c ∷ ts) e = both (ltb m n) (ascending (test n c ∷ t
 -- the number answered is that of a condition that applies, and of those the lowest
 pub lowest : {A : Type 0} (a : A) (n : ℕ) (ts : List Test) → ascending ts ≡ true → outcome ts a ≡ refused n → Applies n ts × ((m : ℕ) → Applies m ts → n ≤ m)
 unfolding outcome
-lowest a n [] up e = absurd (distinct a n e)
+lowest a n [] up e = absurd (never-both e refl)
 lowest a n (test m true ∷ ts) up e =
     let q : m ≡ n = cc in
     (here q refl, λ k p. subst (λ (x : ℕ). x ≤ k) q (at-least m k (rises m true ts up) p))
@@ -75,7 +73,7 @@ lowest a n (test m false ∷ ts) up e =
 pub accepts : {A : Type 0} (a v : A) (ts : List Test) → outcome ts a ≡ accepted v → (v ≡ a) × ((m : ℕ) → Applies m ts → ⊥)
 unfolding outcome
 accepts a v [] e = (cc, nothing)
-accepts a v (test m true ∷ ts) e = absurd (distinct v m (sym e))
+accepts a v (test m true ∷ ts) e = absurd (never-both refl e)
 accepts a v (test m false ∷ ts) e =
     let r = accepts a v ts e in
     (r .0, λ k p. r .1 k (not-false k m p))

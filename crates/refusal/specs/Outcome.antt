@@ -1,6 +1,6 @@
 -- What a call answers: one number if a condition that it tests applies, else its values.
 use Prim.Native.Nat.{ℕ}
-use mathlib.Core.Bool.{Bool, true, false, cond, _&&_}
+use mathlib.Core.Bool.{Bool, true, cond, _&&_}
 use mathlib.Core.List.{List, [], _∷_}
 use mathlib.Core.Path.{_≡_}
 use lib.Dec.{ltb}
@@ -28,6 +28,11 @@ pub data Test : Type 0 where
 unfoldable pub outcome : {A : Type 0} → List Test → A → Outcome A
 outcome [] a = accepted a
 outcome (test n b ∷ ts) a = cond b (refused n) (outcome ts a)
+
+-- the number of the first condition that applies, and 0 if none does
+unfoldable pub firstNumber : List Test → ℕ
+unfolding outcome
+firstNumber tests = numberOf (outcome {A = Unit {0}} tests tt)
 
 -- the numbers of a call's order strictly ascend, so that first is lowest
 unfoldable pub ascending : List Test → Bool

@@ -8,12 +8,14 @@ use Rattle.grouping.specs.Given.{Given, Areas}
 use Rattle.grouping.specs.Settings.{allSettings}
 use Rattle.grouping.specs.Tree.{placesOf, treeOf}
 use Rattle.grouping.specs.ChunkList.{chunkList}
-use Rattle.grouping.specs.Written.{perModule, placed, written}
+use Rattle.grouping.specs.Written.{perModule, written}
+use Rattle.lists.specs.Area.{placed}
 use Rattle.grouping_laws.proofs.ChunkPlaces.{chunks-apart}
 use Rattle.emitting.specs.Emitted.{Work}
 use Rattle.linking.specs.Chains.{Cleared, Linked}
 use Rattle.linking.specs.Links.{Links, linked, Linkable}
-use Rattle.linking.proofs.AreaParts.{module-length, placed-length}
+use Rattle.linking.proofs.PerModule.{module-length}
+use Rattle.lists.proofs.Placed.{placed-length}
 use Rattle.linking.proofs.ChunkModules.{places-distinct}
 use Rattle.linking.proofs.MadeWritten.{made-linkable, made-linked, made-written}
 use Rattle.running.proofs.Tests.{few-modules, passed-sound}

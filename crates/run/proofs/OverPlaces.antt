@@ -8,7 +8,7 @@ use Rattle.lists.specs.Keep.{keep}
 use Rattle.lists.specs.Range.{range}
 use Rattle.lists.proofs.KeepLength.{keep-le}
 use Rattle.lists.proofs.Range.{length-range}
-use Rattle.sorts.proofs.Halves.{sort-length}
+use Rattle.lists.proofs.Rearranged.{sort-length}
 use Rattle.flags.specs.Flags.{eligibleAt}
 use Rattle.grouping.specs.Given.{Given, Areas, isListed}
 use Rattle.grouping.specs.Tree.{runsBefore, placesOf}

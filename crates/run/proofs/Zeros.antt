@@ -7,7 +7,8 @@ use borrow.Rule.Slice.PartMut.{putMid, midOf, mid-len, post-is}
 use lib.ListN.{length, take, drop, replicate, length-replicate}
 use lib.Seq.{length-take-le}
 use Rattle.lists.specs.Range.{range}
-use Rattle.grouping.specs.Written.{perModule, placed}
+use Rattle.grouping.specs.Written.{perModule}
+use Rattle.lists.specs.Area.{placed}
 use Rattle.linking.specs.Links.{Links}
 use Rattle.run.specs.Finished.{unlinked}
 

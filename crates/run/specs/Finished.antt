@@ -3,7 +3,8 @@ use Prim.Native.Nat.{ℕ, _+_, _≤_}
 use mathlib.Core.List.{List}
 use mathlib.Core.Path.{_≡_}
 use lib.ListN.{length, replicate}
-use Rattle.grouping.specs.Written.{perModule, placed}
+use Rattle.grouping.specs.Written.{perModule}
+use Rattle.lists.specs.Area.{placed}
 use Rattle.linking.specs.Links.{Links, linked, Linkable}
 
 -- zeros for n modules, and for `count` chunks from the record `at` on

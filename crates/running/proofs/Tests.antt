@@ -1,11 +1,11 @@
 -- What the tests of the input leave of a build: how many modules there are, how long the tables are, and that ids and orders differ.
 use Prim.Native.Nat.{ℕ, _+_, _^_, _≤_, _<_}
-use mathlib.Core.Bool.{Bool, true, false, _||_, not, true≢false}
+use mathlib.Core.Bool.{Bool, true, false, true≢false}
 use mathlib.Core.List.{List, [], _∷_, map}
 use mathlib.Core.Path.{_≡_, refl, sym, ap, _∙_}
 use native.Mathlib.Omega.{arith}
-use borrow.Author.Tests.{ltb-true, ltb-false, eqb-true, eq-eqb, not-false}
-use lib.Dec.{ltb, eqb}
+use borrow.Author.Tests.{ltb-true, ltb-false, eq-eqb}
+use lib.Dec.{ltb}
 use lib.ListN.{length, getD}
 use Rattle.lists.specs.Keep.{keep}
 use Rattle.lists.specs.Range.{range}
@@ -13,6 +13,7 @@ use Rattle.lists.specs.Same.{sameNumbers}
 use Rattle.lists.specs.Sum.{sum}
 use Rattle.lists.proofs.Below.{neither}
 use Rattle.refusal.specs.Counts.{moduleLimit}
+use Rattle.refusal.proofs.Lengths.{first-length as next}
 use Rattle.whole.specs.Total.{totalLimit, totalExceeds}
 use Rattle.ids.specs.Parts.{idAt}
 use Rattle.grouping.specs.Given.{Given, isListed}
@@ -26,9 +27,6 @@ same-self [] = refl
 same-self (a ∷ l) = rw (eq-eqb a a refl) (same-self l)
 
 -- one length more that is right, and the tests after it
-next : (l n : ℕ) (t : Bool) → (not (eqb l n) || t) ≡ false → (l ≡ n) × (t ≡ false)
-next l n t e = let s = neither (not (eqb l n)) t e in (eqb-true l n (not-false (eqb l n) (s .0)), s .1)
-
 module _ (b : Given) (passed : Passed b) where
   pub few-modules : b .shared .n ≤ 4096
   unfolding countAbove

@@ -7,7 +7,7 @@ use lib.ListN.{length, getD, take, drop, length-map}
 use lib.Seq.{take-at, length-front}
 use Rattle.lists.specs.Packed.{itemOf}
 use Rattle.lists.proofs.Map.{getD-map-below}
-use Rattle.sets.specs.Area.{Holds}
+use Rattle.lists.specs.Area.{Holds}
 use Rattle.sets.specs.Built.{startAt, startsOf, Placed}
 use Rattle.sets.specs.Captured.{StartsIn}
 

@@ -31,7 +31,7 @@ use Rattle.grouping_laws.proofs.Places.{places-mem, mem-places}
 use Rattle.grouping_laws.proofs.SetPlaces.{Placed, set-placed}
 use Rattle.grouping_laws.proofs.SetsAreCaptures.{captureFrom, TakesPart, InSet, SetIsUnion, set-captures}
 use Rattle.settling.specs.Modules.{Passed, moduleAt, modulesAt}
-use Rattle.sets.specs.Area.{Holds}
+use Rattle.lists.specs.Area.{Holds}
 use Rattle.sets.specs.Built.{startsOf, SetBuilt}
 use Rattle.sets.specs.Captured.{AllCaptured}
 use Rattle.sets.specs.Gathered.{markedIn}

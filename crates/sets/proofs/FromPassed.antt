@@ -1,12 +1,12 @@
 -- What the tests have shown of a build: there are few places, and the tables have the lengths that the counts imply.
 use Prim.Native.Nat.{ℕ, _+_, _*_, _≤_, _<_, _^_}
-use mathlib.Core.Bool.{Bool, true, false, _||_, not}
+use mathlib.Core.Bool.{Bool, true, not}
 use mathlib.Core.List.{map, Memᴰ·map}
 use mathlib.Core.Path.{_≡_, sym, subst}
 use native.Mathlib.Nat.{suc-mul, mul-le-mul-right}
 use native.Mathlib.Omega.{arith}
-use borrow.Author.Tests.{eqb-true, not-false, ltb-false, leb-false}
-use lib.Dec.{eqb, ltb, leb}
+use borrow.Author.Tests.{ltb-false, leb-false}
+use lib.Dec.{ltb, leb}
 use lib.ListN.{length, getD, drop, length-drop}
 use lib.Seq.{length-take-le}
 use Rattle.lists.specs.Keep.{keep}
@@ -17,11 +17,12 @@ use Rattle.lists.proofs.KeepLength.{keep-le}
 use Rattle.lists.proofs.Members.{mem-keep, mem-range}
 use Rattle.lists.proofs.Position.{mem-getD}
 use Rattle.lists.proofs.Range.{length-range}
+use Rattle.lists.proofs.SumChanged.{one-of-sum}
+use Rattle.lists.proofs.Rearranged.{sort-length}
 use Rattle.refusal.specs.Counts.{moduleLimit, groupLimit, entryLimit, nameLimit, recordLimit}
+use Rattle.refusal.proofs.Lengths.{first-length as next, right-length as last}
 use Rattle.whole.specs.Total.{totalLimit, totalExceeds}
 use Rattle.flags.specs.Flags.{listed, assigned, eligible, eligibleAt}
-use Rattle.merge.proofs.Totals.{one-of-sum}
-use Rattle.sorts.proofs.Halves.{sort-length}
 use Rattle.records.specs.Bad.{RecordTables}
 use Rattle.grouping.specs.Given.{Given, isListed, isEligible}
 use Rattle.grouping.specs.Tree.{placesOf, runsBefore}
@@ -32,12 +33,6 @@ use Rattle.sets.specs.OfBuild.{answersOf, matchingOf}
 use Rattle.sets.proofs.TakesAt.{answer-at}
 
 -- one length that is right, and the tests after it
-next : (l n : ℕ) (t : Bool) → (not (eqb l n) || t) ≡ false → (l ≡ n) × (t ≡ false)
-next l n t e = let s = neither (not (eqb l n)) t e in (eqb-true l n (not-false (eqb l n) (s .0)), s .1)
-
-last : (l n : ℕ) → not (eqb l n) ≡ false → l ≡ n
-last l n e = eqb-true l n (not-false (eqb l n) e)
-
 module _ (b : Given) (ok : Passed b) where
   pub modules-few : b .shared .n ≤ 4096
   unfolding countAbove

@@ -12,8 +12,8 @@ use lib.Seq.{take-all}
 use Rattle.lists.specs.Keep.{keep}
 use Rattle.lists.proofs.KeepLoop.{keep-take-in, keep-take-out}
 use Rattle.lists.proofs.Position.{mem-getD}
-use Rattle.records.specs.Marks.{stored}
-use Rattle.records.proofs.Stored.{stored-on}
+use Rattle.lists.specs.Stored.{stored}
+use Rattle.lists.proofs.Stored.{stored-on}
 use Rattle.sets.specs.Gathered.{markedIn, blockOf, FoundReady}
 
 module _ (marks order : List ℕ) where

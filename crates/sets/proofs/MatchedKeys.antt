@@ -14,8 +14,8 @@ use Rattle.lists.proofs.Members.{keep-mem, range-mem}
 use Rattle.lists.proofs.Position.{getD-mem}
 use Rattle.lists.proofs.Range.{length-range}
 use Rattle.lists.proofs.Sort.{sort-mem}
-use Rattle.sorts.proofs.Halves.{sort-length}
-use Rattle.sets.specs.Area.{Holds}
+use Rattle.lists.proofs.Rearranged.{sort-length}
+use Rattle.lists.specs.Area.{Holds}
 use Rattle.sets.specs.Matched.{Matching, Matchable, Narrow, takesModule, keyAt, takingPart, keysOf}
 use Rattle.sets.proofs.Building.{front}
 

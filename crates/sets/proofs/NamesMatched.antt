@@ -14,7 +14,7 @@ use Rattle.lists.specs.Keys.{keysIn}
 use Rattle.lists.specs.Packed.{keyOf, itemOf}
 use Rattle.lists.specs.Range.{range}
 use Rattle.lists.specs.Sort.{sortBy}
-use Rattle.lists.proofs.Below.{both}
+use Rattle.lists.proofs.Below.{both, same-truth}
 use Rattle.lists.proofs.Elem.{elem-mem, mem-elem}
 use Rattle.lists.proofs.KeepTests.{keep-keep, keep-same}
 use Rattle.lists.proofs.Members.{keep-mem, mem-keep, range-mem, mem-range}
@@ -22,7 +22,6 @@ use Rattle.lists.proofs.Packed.{packed-keys, packed-items}
 use Rattle.lists.proofs.Sort.{Pairs, pairs-kept}
 use Rattle.lists.proofs.Sorted.{sorted-fixed}
 use Rattle.lists.proofs.SortNumbers.{kept-sorted}
-use Rattle.bitset.proofs.Bits.{same-truth}
 use Rattle.options.specs.declared.Settings.{Settings}
 use Rattle.grouping.specs.Given.{Given}
 use Rattle.grouping.specs.Settings.{settingsOf}

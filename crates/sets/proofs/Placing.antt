@@ -9,7 +9,7 @@ use native.Mathlib.Omega.{arith}
 use lib.ListN.{length, getD, set, length-set}
 use lib.Seq.{getD-set-same, getD-set-other}
 use Rattle.lists.proofs.Pairs.{pairs-at}
-use Rattle.records.proofs.Stored.{one-stored}
+use Rattle.lists.proofs.Stored.{one-stored}
 use Rattle.sets.specs.Gathered.{PlacesFree, PlacesAre}
 
 -- the places of the first i modules

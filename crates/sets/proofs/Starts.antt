@@ -3,13 +3,14 @@ use Prim.Native.Nat.{ℕ, zero, suc, _+_, _≤_, _<_}
 use mathlib.Core.Bool.{Bool, true}
 use mathlib.Core.List.{List, _∷_, _++_, [], foldl, List·Memᴰ}
 use mathlib.Core.Logic.{⊎-elim}
-use mathlib.Core.Path.{_≡_, refl, sym, ap, _∙_, subst}
+use mathlib.Core.Path.{_≡_, sym, ap, _∙_, subst}
 use native.Mathlib.Numerals.{add-one}
 use native.Mathlib.Omega.{arith}
 use borrow.Author.Tests.{eqb-true, eq-eqb}
 use lib.Dec.{eqb}
 use lib.ListN.{length, getD, take, replicate}
 use lib.Seq.{take-suc, take-all}
+use Rattle.lists.proofs.Stored.{zeros}
 use Rattle.lists.proofs.Fold.{foldl-append}
 use Rattle.lists.proofs.Position.{mem-getD, take-position}
 use Rattle.capture.specs.Reached.{Reached, start, further, Marks}
@@ -46,11 +47,6 @@ module _ (flags starts : List ℕ) (n : ℕ) (w₀ : Walk) (s : WalkState flags 
 pub eligible-starts : {E : ℕ → Type 0} {N : ℕ → ℕ → Type 0} {S T : ℕ → Type 0} → ((m : ℕ) → S m → E m → T m) → {m : ℕ} → Reached E N S m → Reached E N T m
 eligible-starts h (start {m} s e) = start (h m s e) e
 eligible-starts h (further r n e) = further (eligible-starts h r) n e
-
-zeros : (n m : ℕ) → getD {A = ℕ} (replicate n 0) m 0 ≡ 0
-zeros zero m = refl
-zeros (suc n) zero = refl
-zeros (suc n) (suc m) = zeros n m
 
 -- ---- over cleared marks
 

@@ -4,9 +4,10 @@ use mathlib.Core.List.{List, [], _∷_, _++_, map, map-append}
 use mathlib.Core.Path.{_≡_, refl, sym, ap, _∙_, subst, subst₂}
 use native.Mathlib.Numerals.{add-one}
 use native.Mathlib.Omega.{arith}
-use lib.ListN.{length, getD, take, set, length-set, length-append}
-use lib.Seq.{take-suc, take-suc-set, take-all}
-use Rattle.sets.specs.Area.{Holds}
+use lib.ListN.{length, getD, take, set, length-set}
+use lib.Seq.{take-suc, take-all}
+use Rattle.lists.specs.Area.{Holds}
+use Rattle.lists.proofs.Front.{holds-more}
 
 -- of the first i elements the area holds what was to be written
 pub record Writing (list : List ℕ) (i count : ℕ) (area₀ area : List ℕ) : Type 0 where
@@ -16,13 +17,6 @@ pub record Writing (list : List ℕ) (i count : ℕ) (area₀ area : List ℕ) :
 
 pub none-written : (area : List ℕ) → Writing [] 0 0 area area
 none-written area = record { holds = record { number = refl; entries = refl }; few = omega arith; same-length = refl }
-
-pub holds-more : {list : List ℕ} {count : ℕ} {area : List ℕ} (x : ℕ) → Holds list count area → count < length area
-    → Holds (list ++ (x ∷ [])) (count + 1) (set area count x)
-holds-more {list} {count} {area} x h b = record {
-  number = omega (arith, h .number, length-append list (x ∷ []));
-  entries = rw (add-one count, take-suc-set area count x b, h .entries);
-}
 
 module _ {list : List ℕ} {i count : ℕ} {area₀ area : List ℕ} (w : Writing list i count area₀ area) where
   -- one element is written

@@ -8,7 +8,7 @@ use Rattle.lists.specs.Packed.{itemOf}
 use Rattle.lists.proofs.Sort.{Pairs}
 use Rattle.capture.specs.Followed.{unfollowed}
 use Rattle.capture.specs.Walk.{WalkTables}
-use Rattle.sets.specs.Area.{Holds}
+use Rattle.lists.specs.Area.{Holds}
 use Rattle.sets.specs.Captured.{AllCaptured}
 use Rattle.sets.specs.Gathered.{markedIn, PlacesAre}
 

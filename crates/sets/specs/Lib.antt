@@ -1,5 +1,4 @@
 -- Step 1 for one group: the modules that take part, by name, and the set of each name in execution order.
-pub mod Area
 pub mod Matched
 pub mod Captured
 pub mod Gathered

@@ -1,7 +1,7 @@
 // The set of one name: what the modules capture that take part with it, in execution order.
 use crate::captured::capture_all;
 use crate::gathered::gather_found;
-use capture::store::store_bytes;
+use lists::store::store_bytes;
 ghost use mathlib.Core.Path.{_≡_};
 ghost use lib.ListN.{length, replicate};
 ghost use Rattle.capture.specs.Followed.{unfollowed};

@@ -2,9 +2,8 @@
 // costs little among many modules.
 ghost use mathlib.Core.List.{map};
 ghost use mathlib.Core.Path.{_≡_};
-ghost use lib.ListN.{length};
-ghost use Rattle.records.specs.Marks.{stored};
-ghost use Rattle.sets.specs.Area.{Holds};
+ghost use Rattle.lists.specs.Stored.{stored};
+ghost use Rattle.lists.specs.Area.{Holds};
 ghost use Rattle.sets.specs.Gathered.{blockOf, markedIn, PlacesFree, PlacesAre, BlocksReady, MarkedReady, FoundReady};
 ghost use Rattle.sets.specs.Gathered.{HasMark, FrontReady};
 

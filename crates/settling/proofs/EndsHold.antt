@@ -11,7 +11,7 @@ use Rattle.options.specs.declared.Settings.{Settings}
 use Rattle.grouping.specs.Tree.{Tree}
 use Rattle.grouping.specs.Fate.{Fate, emptied, dropped, parted, emitted, fateOf}
 use Rattle.grouping_laws.proofs.Pieces.{Ascending, Pieces, OfFate, fate-holds}
-use Rattle.settling.specs.Ends.{endsBy, endsFrom, endsOf}
+use Rattle.settling.specs.Ends.{endsBy, endsFrom}
 use Rattle.lists.proofs.Blocks.{pairs-append}
 
 -- ---- the bound
@@ -35,11 +35,6 @@ module _ (r : Settings) (tree : Tree) where
           (again right (o .right-ascends) (omega (arith, o .left-some, o .lengths)) (omega (arith, o .left-some, o .lengths)))
           (again left (o .left-ascends) (omega (arith, o .right-some, o .lengths)) (omega (arith, o .right-some, o .lengths)))
       go emitted o again = refl
-
-  pub ends-enough : (places : List ℕ) → Ascending places → (extra : ℕ)
-      → endsFrom (suc (length places) + extra) r tree places ≡ endsOf r tree places
-  unfolding endsOf
-  ends-enough places a extra = ends-same (suc (length places) + extra) (suc (length places)) places a (omega arith) (omega arith)
 
 -- ---- the ends
 

@@ -17,7 +17,8 @@ use Rattle.grouping.specs.WorkList.{lowerOr, comesFirst, itemsOfSet, itemsOfNam
 use Rattle.settling.specs.Traversal.{namesOf, itemsOf}
 use Rattle.lists.proofs.Blocks.{pairs-flatMap}
 use Rattle.lists.proofs.FlatMap.{flatMap-mem}
-use Rattle.settling.proofs.SubgroupsAscend.{Lower, there-ascends}
+use Rattle.settling.proofs.SubgroupsAscend.{there-ascends}
+use Rattle.merge.proofs.NumbersAscend.{Lower}
 
 -- ---- an order by one number, and by what comes next
 

@@ -10,7 +10,7 @@ use Rattle.grouping.specs.Tree.{Tree}
 use Rattle.grouping.specs.Item.{Item}
 use Rattle.grouping.specs.ChunkList.{Chunk}
 use Rattle.settling.specs.Settled.{settled}
-use Rattle.settling.specs.Traversal.{afterName, afterGroup}
+use Rattle.settling.specs.Traversal.{afterName}
 
 module _ {A B : Type 0} (f : B → A → B) (b : B) where
   pub foldl-more : (l : List A) (x : A) → foldl f b (l ++ (x ∷ [])) ≡ f (foldl f b l) x
@@ -27,7 +27,3 @@ item-more tree chunks = foldl-more (settled tree) chunks
 pub name-more : (r : Settings) (g : ℕ) (tree : Tree) (chunks : List Chunk) (l : List ℕ) (name : ℕ)
     → foldl (afterName r g tree) chunks (l ++ (name ∷ [])) ≡ afterName r g tree (foldl (afterName r g tree) chunks l) name
 name-more r g tree chunks = foldl-more (afterName r g tree) chunks
-
-pub group-more : (k : ℕ) (settings : ℕ → Settings) (tree : Tree) (chunks : List Chunk) (l : List ℕ) (g : ℕ)
-    → foldl (afterGroup k settings tree) chunks (l ++ (g ∷ [])) ≡ afterGroup k settings tree (foldl (afterGroup k settings tree) chunks l) g
-group-more k settings tree chunks = foldl-more (afterGroup k settings tree) chunks

@@ -1,6 +1,6 @@
 -- A part of a list: some of its elements that stand next to one another. What is kept by the test "stands in the part" is the part.
 use Prim.Native.Nat.{ℕ}
-use mathlib.Core.Bool.{Bool, true, false}
+use mathlib.Core.Bool.{Bool}
 use mathlib.Core.List.{List, [], _++_, append-assoc, append-nil, List·Memᴰ, Memᴰ·append-left, Memᴰ·append-right}
 use mathlib.Core.Path.{_≡_, refl, sym, ap, ap₂, _∙_, subst}
 use lib.ListN.{take, drop, take-append-drop}
@@ -8,7 +8,7 @@ use lib.Seq.{slice}
 use Rattle.lists.specs.Elem.{elem}
 use Rattle.lists.specs.Keep.{keep}
 use Rattle.lists.proofs.Distinct.{Distinct}
-use Rattle.lists.proofs.Elem.{elem-mem, mem-elem}
+use Rattle.lists.proofs.Elem.{mem-elem, not-elem}
 use Rattle.lists.proofs.Keep.{keep-append}
 use Rattle.lists.proofs.Pairs.{pairs-across}
 use Rattle.lists.proofs.KeepTests.{keep-all, keep-none}
@@ -48,13 +48,6 @@ part-mem p x m = subst (λ (l : List ℕ). List·Memᴰ x l) (p .all) (Memᴰ·a
 
 -- ---- a part of a list without repeats is what is kept by standing in it
 
-absent : (x : ℕ) (l : List ℕ) → (List·Memᴰ x l → ⊥) → elem x l ≡ false
-absent x l out = go (elem x l) refl
-  where
-    go : (b : Bool) → elem x l ≡ b → b ≡ false
-    go true e = absurd (out (elem-mem x l e))
-    go false e = refl
-
 pub part-kept : {part whole : List ℕ} → PartOf part whole → Distinct whole → keep (λ x. elem x part) whole ≡ part
 part-kept {part} {whole} p distinct =
     ap (keep test) (sym (p .all))
@@ -71,11 +64,11 @@ part-kept {part} {whole} p distinct =
     before : keep test (p .front) ≡ []
     before =
         keep-none test (p .front)
-        (λ x m. absent x part (λ n. pairs-across (p .front) (subst Distinct (sym (p .all)) distinct) x x m (Memᴰ·append-left (p .back) n) refl))
+        (λ x m. not-elem x part (λ n. pairs-across (p .front) (subst Distinct (sym (p .all)) distinct) x x m (Memᴰ·append-left (p .back) n) refl))
 
     after : keep test (p .back) ≡ []
     after =
         keep-none test (p .back)
-        (λ x m. absent x part
+        (λ x m. not-elem x part
         (λ n. pairs-across (p .front ++ part) (subst Distinct (sym (append-assoc (p .front) part (p .back) ∙ p .all)) distinct)
         x x (Memᴰ·append-right (p .front) n) m refl))

@@ -39,13 +39,6 @@ take-some i l h = simp length-take (omega (arith, h .from-one, h .inside))
 drop-some : (i : ℕ) (l : List ℕ) → Inside i l → 1 ≤ length (drop i l)
 drop-some i l h = simp length-drop (omega (arith, h .inside))
 
-pub pieces-some : (c : Cutting) (l : List ℕ) → 1 ≤ length l → (piece : List ℕ) → List·Memᴰ piece (piecesOf c l) → 1 ≤ length piece
-pieces-some c =
-    by-pieces c (λ l ps. 1 ≤ length l → (piece : List ℕ) → List·Memᴰ piece ps → 1 ≤ length piece)
-    (λ l h piece m. subst (λ (k : List ℕ). 1 ≤ length k) (sym (List·Memᴰ·eq-of-singleton m)) h)
-    (λ l i at ps qs p q h piece m.
-    ⊎-elim (λ k. p (drop-some i l at) piece k) (λ k. q (take-some i l at) piece k) (List·Memᴰ·append-cases ps m))
-
 sides-length : (i : ℕ) (l : List ℕ) (ps qs : List (List ℕ)) → length ps ≤ length (drop i l) → length qs ≤ length (take i l) → length (ps ++ qs) ≤ length l
 sides-length i l ps qs p q = simp length-append (omega (arith, length-append (take i l) (drop i l), ap length (take-append-drop i l)))
 

@@ -17,10 +17,9 @@ use mathlib.Core.List.{
   Memᴰ·of-map,
 }
 use mathlib.Core.Logic.{⊎-elim}
-use mathlib.Core.Path.{_≡_, refl, sym, ap, _∙_, subst}
+use mathlib.Core.Path.{_≡_, refl, sym, ap, subst}
 use native.Mathlib.Omega.{arith}
-use lib.ListN.{length, length-append}
-use Rattle.lists.proofs.Fold.{foldl-append}
+use lib.ListN.{length}
 use Rattle.lists.proofs.Sort.{Pairs, none, pairs-map}
 use Rattle.grouping.specs.Tree.{Tree}
 use Rattle.grouping.specs.Item.{Item, withPlaces}
@@ -28,7 +27,7 @@ use Rattle.grouping.specs.ChunkList.{Chunk, chunkFrom}
 use Rattle.grouping_laws.proofs.Pieces.{Ascending}
 use Rattle.grouping_laws.proofs.SetPlaces.{Placed}
 use Rattle.grouping_laws.proofs.EnoughTurns.{AllAscend}
-use Rattle.grouping_laws.proofs.ChunkPlaces.{Apart, apart-count}
+use Rattle.grouping_laws.proofs.ChunkPlaces.{Apart}
 use Rattle.settling.specs.Ends.{endsOf}
 use Rattle.settling.specs.Settled.{leftOf, chunksFrom, settled}
 use Rattle.lists.proofs.Blocks.{pairs-append}
@@ -105,26 +104,6 @@ module _ (tree : Tree) where
         apart = none;
       })
 
-  -- ---- chunks are only added
-
-  pub settled-begins : (items : List Item) (chunks : List Chunk) → (new : List Chunk) × (foldl (settled tree) chunks items ≡ chunks ++ new)
-  unfolding settled
-  settled-begins [] chunks = ([], sym (append-nil chunks))
-  settled-begins (i ∷ items) chunks =
-      let first = chunksFrom tree i (endsOf (i .settings) tree (leftOf chunks (i .places))) in
-      let later = settled-begins items (chunks ++ first) in
-      (first ++ later .0, later .1 ∙ append-assoc chunks first (later .0))
-
-  pub settled-count : (items : List Item) (chunks : List Chunk) → length chunks ≤ length (foldl (settled tree) chunks items)
-  settled-count items chunks = let s = settled-begins items chunks in rw (s .1) (simp length-append (omega arith))
-
-  -- of a part of the items, and of all of them
-  pub settled-part-begins : (l m : List Item) → (new : List Chunk) × (foldl (settled tree) [] (l ++ m) ≡ foldl (settled tree) [] l ++ new)
-  settled-part-begins l m = let s = settled-begins m (foldl (settled tree) [] l) in (s .0, foldl-append (settled tree) [] l m ∙ s .1)
-
-  pub settled-part-count : (l m : List Item) → length (foldl (settled tree) [] l) ≤ length (foldl (settled tree) [] (l ++ m))
-  settled-part-count l m = rw (foldl-append (settled tree) [] l m) (settled-count m (foldl (settled tree) [] l))
-
 -- ---- places below n
 
 module _ {items : List Item} {chunks : List Chunk} (h : SettledChunks items chunks)
@@ -133,7 +112,3 @@ module _ {items : List Item} {chunks : List Chunk} (h : SettledChunks items chun
   settled-placed c m =
       let o = h .within c m in
       record { ascend = h .ascend c m; below = λ p k. below (o .0) (o .1) p (o .2 p k) }
-
-  -- there is room for the records in areas of n entries
-  pub settled-room : length chunks ≤ n
-  settled-room = apart-count n chunks (λ c m. (settled-placed c m, h .some c m)) (h .apart)

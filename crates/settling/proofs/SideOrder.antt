@@ -5,7 +5,7 @@ use mathlib.Core.List.{List, List·Memᴰ, List·Permᴰ}
 use mathlib.Core.Logic.{⊎-elim}
 use mathlib.Core.Path.{_≡_, refl, sym, ap, _∙_, subst}
 use native.Mathlib.Omega.{arith}
-use lib.ListN.{length, take, drop}
+use lib.ListN.{length}
 use Rattle.lists.specs.Elem.{elem}
 use Rattle.lists.proofs.Distinct.{Distinct}
 use Rattle.lists.proofs.Elem.{elem-mem, mem-elem}
@@ -19,7 +19,7 @@ use Rattle.grouping_laws.proofs.Pieces.{Ascending}
 use Rattle.lists.proofs.KeepTests.{keep-keep, keep-same}
 use Rattle.lists.proofs.SortKeep.{sort-keep}
 use Rattle.lists.proofs.Sorted.{WeakOrder}
-use Rattle.settling.proofs.Parts.{PartOf, part-take, part-drop, part-kept}
+use Rattle.settling.proofs.Parts.{PartOf, part-kept}
 
 before-negation : (a b c : List ℕ) → before a b ≡ false → before b c ≡ false → before a c ≡ false
 before-negation a b c p q = go (before a c) refl
@@ -73,15 +73,6 @@ module _ (tree : Tree) where
     -- the places of a side, in execution order and in id order
     pub side-perm : List·Permᴰ (among side places) side
     side-perm = subst (λ (l : List ℕ). List·Permᴰ (among side places) l) side-in-order (ordered-perm (among side places))
-
-  -- the two sides of a cut
-  pub left-in-order : (places : List ℕ) → Ascending places → (i : ℕ)
-      → inIdOrder tree (among (take i (inIdOrder tree places)) places) ≡ take i (inIdOrder tree places)
-  left-in-order places ascend i = side-in-order places ascend (take i (inIdOrder tree places)) (part-take i (inIdOrder tree places))
-
-  pub right-in-order : (places : List ℕ) → Ascending places → (i : ℕ)
-      → inIdOrder tree (among (drop i (inIdOrder tree places)) places) ≡ drop i (inIdOrder tree places)
-  right-in-order places ascend i = side-in-order places ascend (drop i (inIdOrder tree places)) (part-drop i (inIdOrder tree places))
 
 -- the places of a piece of a side
 pub among-among : (piece side places : List ℕ) → ((p : ℕ) → List·Memᴰ p piece → List·Memᴰ p side) → among piece (among side places) ≡ among piece places

@@ -1,13 +1,14 @@
 -- The size of the places of a side, in execution order, is that of the side in id order: up to 2^53 sizes add in any order.
-use Prim.Native.Nat.{ℕ, _+_, _^_, _≤_}
-use mathlib.Core.Bool.{Bool, true, false}
-use mathlib.Core.List.{List, [], _∷_, map, Permᴰ·map}
+use Prim.Native.Nat.{ℕ, _^_, _≤_}
+use mathlib.Core.Bool.{Bool}
+use mathlib.Core.List.{List, Permᴰ·map}
 use mathlib.Core.List.{List·Permᴰ}
 use mathlib.Core.Path.{_≡_, sym}
 use native.Mathlib.Omega.{arith}
 use Rattle.lists.specs.Elem.{elem}
-use Rattle.lists.specs.Keep.{keep, keepHead}
+use Rattle.lists.specs.Keep.{keep}
 use Rattle.lists.specs.Sum.{sum}
+use Rattle.lists.proofs.Sum.{keep-sum}
 use Rattle.whole.proofs.Exact.{sum-any-order}
 use Rattle.options.specs.declared.Settings.{Settings}
 use Rattle.grouping.specs.Tree.{Tree, memberAt}
@@ -20,15 +21,6 @@ use Rattle.settling.proofs.SideOrder.{ordered-perm, side-perm}
 -- the sizes at the places add to at most 2^53
 abbrev pub Exact : Settings → Tree → List ℕ → Type 0
 Exact r tree places = sum (sizesAt r tree places) ≤ 2 ^ 53
-
-keep-sum : (f : ℕ → ℕ) (p : ℕ → Bool) (l : List ℕ) → sum (map f (keep p l)) ≤ sum (map f l)
-unfolding keep keepHead sum
-keep-sum f p [] = omega arith
-keep-sum f p (x ∷ l) = go (p x) (keep-sum f p l)
-  where
-    go : (b : Bool) → sum (map f (keep p l)) ≤ sum (map f l) → sum (map f (keepHead b x (keep p l))) ≤ f x + sum (map f l)
-    go true h = omega arith
-    go false h = omega arith
 
 pub keep-exact : (r : Settings) (tree : Tree) (p : ℕ → Bool) (places : List ℕ) → Exact r tree places → Exact r tree (keep p places)
 keep-exact r tree p places h = omega (arith, keep-sum (λ q. sizeIn r (memberAt tree q)) p places)

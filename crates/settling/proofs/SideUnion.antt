@@ -16,7 +16,7 @@ use Rattle.grouping.specs.Fate.{inIdOrder, among}
 use Rattle.grouping.specs.ChunkList.{unionAt}
 use Rattle.grouping_laws.proofs.Pieces.{Ascending}
 use Rattle.settling.proofs.Parts.{PartOf}
-use Rattle.settling.proofs.SideOrder.{ordered-perm, side-perm}
+use Rattle.settling.proofs.SideOrder.{side-perm}
 
 below-power : (n : ℕ) → n < 2 ^ n
 below-power zero = omega arith
@@ -73,9 +73,6 @@ union-any-order : (tree : Tree) {l m : List ℕ} → List·Permᴰ l m → union
 unfolding unionAt
 union-any-order tree d =
     fold-any-order (λ p bits. unionOf (memberAt tree p .bits) bits) empty (λ p q bits. union-left-comm (memberAt tree p .bits) (memberAt tree q .bits) bits) d
-
-pub ordered-union : (tree : Tree) (places : List ℕ) → unionAt tree (inIdOrder tree places) ≡ unionAt tree places
-ordered-union tree places = sym (union-any-order tree (ordered-perm tree places))
 
 pub side-union : (tree : Tree) (places : List ℕ) → Ascending places
     → (side : List ℕ) → PartOf side (inIdOrder tree places) → unionAt tree (among side places) ≡ unionAt tree side

@@ -139,14 +139,3 @@ module _ (tree : Tree) where
   pub made-item : (i : Item) (items : List Item) → AllAscend (i ∷ items) → made (i ∷ items) ≡ itemChunks i ++ made (map (itemLeft (itemChunks i)) items)
   unfolding endsOf
   made-item i items all = item-turns (suc (length (i .places))) i items (omega arith) all
-
-  -- for any bounds that are high enough
-  pub turns-of-item : (i : Item) (items : List Item) → AllAscend (i ∷ items) → (most most′ : ℕ)
-      → mostTurns (i ∷ items) ≤ most → mostTurns (map (itemLeft (itemChunks i)) items) ≤ most′
-      → chunksOfTurns tree (turns most tree (i ∷ items)) ≡ itemChunks i ++ chunksOfTurns tree (turns most′ tree (map (itemLeft (itemChunks i)) items))
-  turns-of-item i items all most most′ h h′ =
-      let others = map (itemLeft (itemChunks i)) items in
-      made-most most (i ∷ items) all h
-      ∙ made-item i items all
-      ∙ ap (λ (l : List Chunk). itemChunks i ++ l)
-      (sym (made-most most′ others (all-left-ascend (itemChunks i) items (λ j m. all j (List·Memᴰ·tail m))) h′))

@@ -1,6 +1,6 @@
 -- Laws of the similarity: its bound, that it is symmetric, that the call tests in ascending order, and the similarity from byte i on.
 use Prim.Native.Nat.{ℕ, _+_, _-_, _*_, min, _≤_, _<_}
-use mathlib.Core.Bool.{Bool, true, false, cond, _||_}
+use mathlib.Core.Bool.{Bool, true, false, cond}
 use mathlib.Core.List.{List, [], _∷_}
 use mathlib.Core.Path.{_≡_, refl, ap₂}
 use native.Mathlib.Decide.{decLe}
@@ -10,8 +10,8 @@ use native.Mathlib.Omega.{arith}
 use lib.Dec.{ltb}
 use lib.ListN.{length, getD, drop, drop-of-length-le}
 use lib.Seq.{drop-cons}
-use Rattle.refusal.specs.Outcome.{refused, accepted, outcome, ascending}
-use Rattle.ids.specs.Offsets.{idTooLong}
+use Rattle.refusal.specs.Outcome.{Outcome, ascending}
+use Rattle.refusal.proofs.Ladder.{Row, row}
 use Rattle.similarity.specs.Similarity.{gap, byteScore, similarity, similarityTests, similarityCall}
 
 -- ---- one byte pair
@@ -47,11 +47,10 @@ pub tests-ascend : (l r : List ℕ) → ascending (similarityTests l r) ≡ true
 unfolding similarityTests ascending
 tests-ascend l r = refl
 
--- the call, by what its two tests say
-pub call : (l r : List ℕ) (p q : Bool) → idTooLong l ≡ p → idTooLong r ≡ q
-    → similarityCall l r ≡ cond (p || q) (refused 3) (accepted (similarity l r))
-unfolding similarityCall similarityTests outcome
-call l r p q e f = rw (e, f)
+-- the call, by its test as it came out
+pub decided : (l r : List ℕ) {o : Outcome ℕ} → Row (similarity l r) (similarityTests l r) o → similarityCall l r ≡ o
+unfolding similarityCall
+decided l r tests = row tests
 
 -- ---- two ids from byte i on, as a loop over both meets them
 

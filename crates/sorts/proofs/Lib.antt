@@ -2,8 +2,6 @@
 pub mod Neighbours
 pub mod Orders
 pub mod SameKey
-pub mod Copying
-pub mod Halves
 pub mod Naming
 pub mod NeighbourOrder
 pub mod InsertOne
@@ -18,7 +16,6 @@ pub mod Dealing
 pub mod DigitOrder
 pub mod Differing
 pub mod Passes
-pub mod Growing
 pub mod FindingParts
 pub mod PartOrder
 pub mod LayingParts

@@ -1,26 +1,25 @@
 -- A build's set by place and by module: what stands at a place is what the tables have for the module there, so that the kinds and their merge
 -- are those of the definition.
-use Prim.Native.Nat.{ℕ, suc, _+_, _*_, _^_, _<_, _≤_}
-use mathlib.Core.Bool.{Bool, true, false}
+use Prim.Native.Nat.{ℕ, suc, _+_, _^_, _<_, _≤_}
 use mathlib.Core.List.{List, [], _∷_, map, map-map, List·Memᴰ}
 use mathlib.Core.Path.{_≡_, refl, sym, ap, ap₂, _∙_}
 use native.Mathlib.Nat.{add-zero, zero-add}
 use native.Mathlib.Omega.{arith}
-use lib.ListN.{length, getD, take, length-map}
-use Rattle.lists.specs.Keep.{keep, keepHead}
+use lib.ListN.{length, getD, length-map}
+use Rattle.lists.specs.Keep.{keep}
 use Rattle.lists.specs.Range.{range}
 use Rattle.lists.specs.Sum.{sum}
 use Rattle.lists.proofs.KeepTests.{keep-same, keep-map}
 use Rattle.lists.proofs.Map.{getD-map-below}
 use Rattle.lists.proofs.Members.{map-same, keep-mem}
 use Rattle.lists.proofs.Range.{map-range}
+use Rattle.lists.proofs.Sum.{keep-sum}
 use Rattle.whole.specs.Double.{toF64, sumF64}
 use Rattle.whole.proofs.Exact.{sum-exact}
 use Rattle.bitset.specs.Entries.{empty, rowOf}
 use Rattle.bitset.specs.declared.entries.BitSet.{BitSet}
 use Rattle.merge.specs.Subgroup.{Subgroup}
 use Rattle.merge.specs.Merge.{merged}
-use Rattle.merge.specs.Tables.{mergeOf}
 use Rattle.options.specs.declared.Settings.{Settings}
 use Rattle.grouping.specs.Given.{Given}
 use Rattle.grouping.specs.Tree.{Member, Tree, placesOf, memberOf, treeOf, memberAt}
@@ -28,19 +27,7 @@ use Rattle.grouping.specs.Sizes.{sizesAt, itemSize}
 use Rattle.grouping.specs.Subgroups.{sameBits, kindsOf, placesOfKind, subgroupsFrom, mergedSubgroups, kindsAt}
 use Rattle.settling.specs.Modules.{moduleAt, modulesAt}
 use Rattle.subgroups.specs.Kinds.{kindsIn, sizesOf, sizeOfKind}
-use Rattle.subgroups.specs.Finding.{Members, KindsFound}
 use Rattle.subgroups.specs.Merged.{subgroupOfKind, mergedKinds}
-use Rattle.subgroups.proofs.Merging.{merge-is-kinds}
-
--- what is kept adds to no more than all
-kept-sum : {A : Type 0} (f : A → ℕ) (p : A → Bool) (l : List A) → sum (map f (keep p l)) ≤ sum (map f l)
-unfolding keep keepHead sum
-kept-sum f p [] = omega arith
-kept-sum {A} f p (x ∷ l) = go (p x) (kept-sum f p l)
-  where
-    go : (b : Bool) → sum (map f (keep p l)) ≤ sum (map f l) → sum (map f (keepHead b x (keep p l))) ≤ f x + sum (map f l)
-    go true h = omega arith
-    go false h = omega arith
 
 -- the subgroups numbered from i, where f gives the kind of each number
 from-kinds : (r : Settings) (tree : Tree) (places : List ℕ) (f : ℕ → BitSet) (i : ℕ) (kinds : List BitSet)
@@ -106,7 +93,7 @@ module _ (b : Given) (places : List ℕ) (inside : (p : ℕ) → List·Memᴰ p 
     unfolding sizeOfKind itemSize
     kind-size kind =
         let mine = sizesOf sizes (keep (λ m. sameBits kind (rowOf bits m)) set) in
-        sym (sum-exact mine (omega (arith, kept-sum (λ m. getD sizes m 0) (λ m. sameBits kind (rowOf bits m)) set)))
+        sym (sum-exact mine (omega (arith, keep-sum (λ m. getD sizes m 0) (λ m. sameBits kind (rowOf bits m)) set)))
         ∙ ap sumF64 (kind-sizes kind)
 
     -- the merge of the set's kinds is that of the definition
@@ -122,10 +109,3 @@ module _ (b : Given) (places : List ℕ) (inside : (p : ℕ) → List·Memᴰ p 
         ∙ sym (from-kinds r tree places f 0 kinds (λ j h. ap f (sym (zero-add j)))) in
         ap (λ (l : List Subgroup). merged (r .threshold) (record { there = l; finals = range 0 (length kinds) })) same
         ∙ ap (λ (k : List BitSet). merged (r .threshold) (record { there = subgroupsFrom 0 r tree places k; finals = range 0 (length k) })) kinds-are
-
-    -- so is the merge in the tables that the search for kinds leaves
-    pub merge-is : Members bits sizes set → (count : ℕ) (kind-of totals rows : List ℕ) → KindsFound bits sizes set count kind-of totals rows
-        → count ≤ length totals → 4 * count ≤ length rows
-        → mergeOf count (take count totals) (take (4 * count) rows) (r .threshold) ≡ mergedSubgroups r tree places (kindsAt tree places)
-    merge-is given count kind-of totals rows found totals-room rows-room =
-        merge-is-kinds bits sizes set given (r .threshold) count kind-of totals rows found totals-room rows-room ∙ merged-is

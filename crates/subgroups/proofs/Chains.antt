@@ -4,60 +4,24 @@ use mathlib.Core.Bool.{Bool, true, false, true≢false}
 use mathlib.Core.List.{List}
 use mathlib.Core.Path.{_≡_, refl, sym, ap, ap₂, _∙_, subst}
 use native.Mathlib.Omega.{arith}
-use borrow.Author.Tests.{eqb-true, eq-eqb, ltb-true, ltb-false}
-use lib.Dec.{eqb, ltb}
-use lib.ListN.{length, getD, set, replicate, getD-replicate}
+use borrow.Author.Tests.{ltb-true, ltb-false}
+use lib.Dec.{ltb}
+use lib.ListN.{getD, replicate, getD-replicate}
 use lib.Seq.{getD-set-same, getD-set-other}
-use Rattle.lists.proofs.Below.{both}
-use Rattle.bitset.specs.Entries.{wordAt, rowOf}
+use Rattle.lists.proofs.Below.{refuted}
+use Rattle.bitset.specs.Entries.{rowOf}
 use Rattle.bitset.specs.declared.entries.BitSet.{BitSet}
 use Rattle.grouping.specs.Subgroups.{sameBits, kindNumber}
-use Rattle.merge.specs.Engine.{withRow}
+use Rattle.bitset.specs.Rows.{withRow}
 use Rattle.merge.proofs.Kept.{by-number}
 use Rattle.subgroups.specs.Kinds.{rowsOf}
 use Rattle.subgroups.specs.Finding.{KindFits}
 use Rattle.subgroups.specs.Buckets.{bucketCount, bucketOf, bucketAt, LastIn, Chained, ChainRoom, Pushed}
+use Rattle.subgroups.proofs.SameBits.{four-same, same-both}
 use Rattle.subgroups.proofs.Entering.{row-kept, row-last, no-row}
 use Rattle.subgroups.proofs.Numbers.{number-at, number-nowhere}
 
 -- ---- equal bits
-
--- the four words of equal bits
-record FourSame (a b : BitSet) : Type 0 where
-  w0 : wordAt a 0 ≡ wordAt b 0
-  w1 : wordAt a 1 ≡ wordAt b 1
-  w2 : wordAt a 2 ≡ wordAt b 2
-  w3 : wordAt a 3 ≡ wordAt b 3
-
-four-same : (a b : BitSet) → sameBits a b ≡ true → FourSame a b
-unfolding sameBits
-four-same a b e =
-    let p = both (eqb (wordAt a 0) (wordAt b 0)) _ e in
-    let q = both (eqb (wordAt a 1) (wordAt b 1)) _ (p .1) in
-    let r = both (eqb (wordAt a 2) (wordAt b 2)) (eqb (wordAt a 3) (wordAt b 3)) (q .1) in
-    record {
-      w0 = eqb-true (wordAt a 0) (wordAt b 0) (p .0);
-      w1 = eqb-true (wordAt a 1) (wordAt b 1) (q .0);
-      w2 = eqb-true (wordAt a 2) (wordAt b 2) (r .0);
-      w3 = eqb-true (wordAt a 3) (wordAt b 3) (r .1);
-    }
-
-same-four : (a b : BitSet) → FourSame a b → sameBits a b ≡ true
-unfolding sameBits
-same-four a b s =
-    rw (
-      eq-eqb (wordAt a 0) (wordAt b 0) (s .w0),
-      eq-eqb (wordAt a 1) (wordAt b 1) (s .w1),
-      eq-eqb (wordAt a 2) (wordAt b 2) (s .w2),
-      eq-eqb (wordAt a 3) (wordAt b 3) (s .w3),
-    )
-
--- two sets that both have the bits of a third
-same-both : (a b c : BitSet) → sameBits a c ≡ true → sameBits b c ≡ true → sameBits a b ≡ true
-same-both a b c p q =
-    let s = four-same a c p in
-    let t = four-same b c q in
-    same-four a b (record { w0 = s .w0 ∙ sym (t .w0); w1 = s .w1 ∙ sym (t .w1); w2 = s .w2 ∙ sym (t .w2); w3 = s .w3 ∙ sym (t .w3) })
 
 -- equal bits have one bucket
 same-bucket : (a b : BitSet) → sameBits a b ≡ true → bucketOf a ≡ bucketOf b
@@ -68,12 +32,8 @@ pub bucket-below : (a : BitSet) → bucketOf a < bucketCount
 unfolding bucketOf
 bucket-below a = omega arith
 
-to-false : (b : Bool) → (b ≡ true → ⊥) → b ≡ false
-to-false true h = absurd (h refl)
-to-false false h = refl
-
 other-bucket : (a b : BitSet) → (bucketOf a ≡ bucketOf b → ⊥) → sameBits a b ≡ false
-other-bucket a b n = to-false (sameBits a b) (λ e. n (same-bucket a b e))
+other-bucket a b n = refuted (sameBits a b) (λ e. n (same-bucket a b e))
 
 -- ---- the search along a chain
 
@@ -121,7 +81,7 @@ module _ (kind-bits : List ℕ) (count : ℕ) (heads chain : List ℕ) (c : Chai
     pub found-here : sameBits (rowOf kind-bits k) x ≡ true → k ≡ kindNumber 0 (rowsOf kind-bits count) x
     found-here e =
         sym (number-at kind-bits count x k kind-in
-        (λ j h. to-false (sameBits (rowOf kind-bits j) x)
+        (λ j h. refuted (sameBits (rowOf kind-bits j) x)
         (λ q. true≢false (sym (same-both (rowOf kind-bits j) (rowOf kind-bits k) x q e) ∙ c .apart j k h kind-in))) e)
 
   pub found-nowhere : Searching kind-bits count x 0 → count ≡ kindNumber 0 (rowsOf kind-bits count) x

@@ -14,7 +14,7 @@ use Rattle.lists.proofs.Members.{map-same}
 use Rattle.lists.proofs.Sum.{sum-snoc}
 use Rattle.bitset.specs.Entries.{rowOf}
 use Rattle.bitset.specs.declared.entries.BitSet.{BitSet}
-use Rattle.merge.proofs.Totals.{sum-set}
+use Rattle.lists.proofs.SumChanged.{sum-set}
 use Rattle.grouping.specs.Subgroups.{kindsOf}
 use Rattle.grouping_laws.proofs.KindsEnough.{enough-kinds}
 use Rattle.subgroups.specs.Kinds.{rowsOf, hasKind, kindsIn, kindOfModule, sizesOf}

@@ -1,6 +1,6 @@
 -- Bits that are entered among the kinds of a table: they have a kind there, or their row is written after the others.
 use Prim.Native.Nat.{ℕ, zero, suc, _+_, _<_, _≤_}
-use mathlib.Core.Bool.{Bool, true, false, _||_, true≢false}
+use mathlib.Core.Bool.{true, false}
 use mathlib.Core.List.{List, [], _∷_, _++_, map, map-append}
 use mathlib.Core.Path.{_≡_, refl, sym, ap, ap₂, _∙_}
 use native.Mathlib.Nat.{zero-add}
@@ -12,13 +12,15 @@ use lib.Ieee.{binary64, ofBits, inUnsigned, toUnsigned}
 use lib.ListN.{length, getD, set, length-map}
 use lib.Seq.{take-suc-set}
 use Rattle.lists.specs.Range.{range}
+use Rattle.lists.proofs.Below.{neither}
 use Rattle.lists.proofs.Map.{getD-map-below}
 use Rattle.lists.proofs.Range.{length-range, range-snoc, map-range, getD-range}
 use Rattle.bitset.specs.Entries.{rowOf}
 use Rattle.bitset.specs.declared.entries.BitSet.{BitSet}
-use Rattle.merge.specs.Engine.{withRow, InRow}
+use Rattle.merge.specs.Engine.{InRow}
+use Rattle.bitset.specs.Rows.{withRow}
 use Rattle.merge.proofs.Doubles.{zero-double, is-whole, reads-back}
-use Rattle.merge.proofs.Rows.{row-same, row-other}
+use Rattle.bitset.proofs.Rows.{row-same, row-other}
 use Rattle.grouping.specs.Subgroups.{sameBits, kindNumber}
 use Rattle.subgroups.specs.Kinds.{rowsOf, hasKind}
 use Rattle.subgroups.specs.Finding.{entered, KindFits, Entered}
@@ -42,10 +44,6 @@ four-words (a ∷ []) e = absurd (omega arith)
 four-words (a ∷ b ∷ []) e = absurd (omega arith)
 four-words (a ∷ b ∷ c ∷ []) e = absurd (omega arith)
 four-words (a ∷ b ∷ c ∷ d ∷ f ∷ l) e = absurd (omega arith)
-
-neither : (a b : Bool) → (a || b) ≡ false → (a ≡ false) × (b ≡ false)
-neither false b e = (refl, e)
-neither true b e = absurd (true≢false e)
 
 -- none of the kinds has the bits
 none-has : (l : List BitSet) (x : BitSet) → hasKind l x ≡ false → (j : ℕ) → j < length l → sameBits (getD l j x) x ≡ false

@@ -1,4 +1,5 @@
 -- What the loops need, and the laws.
+pub mod SameBits
 pub mod Numbers
 pub mod OneMore
 pub mod Entering
@@ -7,7 +8,7 @@ pub mod KindSizes
 pub mod Counting
 pub mod Turning
 pub mod Positions
-pub mod Dividing
+pub mod KeysHeld
 pub mod FinalState
 pub mod Merging
 pub mod ByPlace

@@ -27,7 +27,7 @@ use Rattle.merge.specs.Tables.{subgroupAt, finalSizes}
 use Rattle.merge.specs.Engine.{isThere, thereIn}
 use Rattle.grouping.specs.Subgroups.{sameBits}
 use Rattle.grouping_laws.proofs.BitKinds.{same-refl, kind-in}
-use Rattle.grouping_laws.proofs.MergeEnds.{Ended, merged-ended}
+use Rattle.merge.proofs.FinalNumbers.{Ended, merged-ended}
 use Rattle.subgroups.specs.Kinds.{kindsIn, kindOfModule}
 use Rattle.subgroups.specs.Merged.{subgroupOfKind, mergedKinds, divided, Processed}
 use Rattle.subgroups.specs.Items.{subgroupsIn}

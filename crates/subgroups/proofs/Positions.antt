@@ -1,22 +1,21 @@
 -- Bits are the same as those of the kind that they have the number of, and of no other kind. So the sizes by number are the sizes of the kinds.
 use Prim.Native.Nat.{ℕ, zero, suc, _+_, _<_, _≤_}
-use mathlib.Core.Bool.{Bool, true, false, not, cond, _&&_, false≢true}
+use mathlib.Core.Bool.{Bool, true, false, not, cond, false≢true}
 use mathlib.Core.List.{List, [], _∷_, map}
 use mathlib.Core.Path.{_≡_, refl, sym, ap, _∙_}
 use native.Mathlib.Nat.{zero-add, le-of-suc-le-suc}
 use native.Mathlib.Omega.{arith}
-use borrow.Author.Tests.{eqb-true, eq-eqb, ne-eqb}
+use borrow.Author.Tests.{eq-eqb, ne-eqb}
 use lib.Dec.{eqb}
 use lib.ListN.{length, getD, take, length-map}
 use lib.Seq.{ext-getD, length-take-le}
 use Rattle.lists.specs.Keep.{keep}
 use Rattle.lists.specs.Sum.{sum}
-use Rattle.lists.proofs.Below.{both}
 use Rattle.lists.proofs.KeepTests.{keep-same}
 use Rattle.lists.proofs.Map.{getD-map-below}
 use Rattle.lists.proofs.Members.{keep-mem}
 use Rattle.lists.proofs.Position.{getD-mem}
-use Rattle.bitset.specs.Entries.{wordAt, empty, rowOf}
+use Rattle.bitset.specs.Entries.{empty, rowOf}
 use Rattle.bitset.specs.declared.entries.BitSet.{BitSet}
 use Rattle.grouping.specs.Subgroups.{sameBits, kindsOf, kindNumber}
 use Rattle.grouping_laws.proofs.BitKinds.{kind-in}
@@ -25,23 +24,7 @@ use Rattle.subgroups.specs.Finding.{KindsFound}
 use Rattle.subgroups.proofs.Entering.{length-rows}
 use Rattle.subgroups.proofs.KindSizes.{sizeNumbered}
 use Rattle.subgroups.proofs.Counting.{Counted}
-
--- two that are the same as a third are the same
-same-both : (a c x : BitSet) → sameBits a x ≡ true → sameBits c x ≡ true → sameBits a c ≡ true
-unfolding sameBits
-same-both a c x p q =
-    let eq : ℕ → Bool = λ w. eqb (wordAt a w) (wordAt x w) in
-    let fq : ℕ → Bool = λ w. eqb (wordAt c w) (wordAt x w) in
-    let p0 = both (eq 0) (eq 1 && (eq 2 && eq 3)) p in
-    let p1 = both (eq 1) (eq 2 && eq 3) (p0 .1) in
-    let p2 = both (eq 2) (eq 3) (p1 .1) in
-    let q0 = both (fq 0) (fq 1 && (fq 2 && fq 3)) q in
-    let q1 = both (fq 1) (fq 2 && fq 3) (q0 .1) in
-    let q2 = both (fq 2) (fq 3) (q1 .1) in
-    rw (word 0 (p0 .0) (q0 .0), word 1 (p1 .0) (q1 .0), word 2 (p2 .0) (q2 .0), word 3 (p2 .1) (q2 .1))
-  where
-    word : (w : ℕ) → eqb (wordAt a w) (wordAt x w) ≡ true → eqb (wordAt c w) (wordAt x w) ≡ true → eqb (wordAt a w) (wordAt c w) ≡ true
-    word w u v = eq-eqb (wordAt a w) (wordAt c w) (eqb-true (wordAt a w) (wordAt x w) u ∙ sym (eqb-true (wordAt c w) (wordAt x w) v))
+use Rattle.subgroups.proofs.SameBits.{same-both}
 
 number-from : (i : ℕ) (kinds : List BitSet) (x : BitSet) → i ≤ kindNumber i kinds x
 unfolding kindNumber

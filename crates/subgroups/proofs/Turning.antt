@@ -10,7 +10,7 @@ use Rattle.lists.specs.Sum.{sum}
 use Rattle.lists.proofs.Sum.{sum-append, sum-snoc}
 use Rattle.bitset.specs.Entries.{rowOf}
 use Rattle.bitset.specs.declared.entries.BitSet.{BitSet}
-use Rattle.merge.proofs.Totals.{one-of-sum}
+use Rattle.lists.proofs.SumChanged.{one-of-sum}
 use Rattle.subgroups.specs.Kinds.{sizesOf}
 use Rattle.subgroups.specs.Finding.{Members, KindFits, Entered}
 use Rattle.subgroups.proofs.Counting.{Counted, count-most, kind-below, before-sum, one-counted}

@@ -11,9 +11,10 @@ use Rattle.conditions.specs.declared.ModuleLengths.{ModuleLengths}
 use Rattle.conditions.specs.declared.RecordLengths.{RecordLengths}
 use Rattle.conditions.specs.declared.GroupLengths.{GroupLengths}
 use Rattle.conditions.specs.HandsIn.{moduleLengths, recordLengths, groupLengths}
-use Rattle.conditions.specs.Ladder.{firstNumber, shapeTests, HandsShape}
+use Rattle.conditions.specs.Ladder.{shapeTests, HandsShape}
+use Rattle.refusal.specs.Outcome.{firstNumber}
 use Rattle.conditions.proofs.CountsLeft.{counts-passed}
-use Rattle.conditions.proofs.Steps.{shape-left}
+use Rattle.conditions.proofs.InputParts.{shape-left}
 use Rattle.conditions.proofs.TablesLeft.{TablesPassed, tables-passed}
 use Rattle.places.specs.Ordered.{Handed, Hands}
 use Rattle.testing.specs.Content.{ContentReady, HandsContent}

@@ -4,18 +4,18 @@ use mathlib.Core.List.{List, _++_}
 use mathlib.Core.Path.{_≡_, refl, sym, ap, _∙_}
 use native.Mathlib.Omega.{arith}
 use lib.ListN.{length}
-use Rattle.refusal.specs.Outcome.{Test, accepted, outcome}
+use Rattle.refusal.specs.Outcome.{Test, accepted, outcome, firstNumber}
 use Rattle.grouping.specs.Given.{Given}
 use Rattle.grouping.specs.Conditions.{inputTests}
 use Rattle.settling.specs.Modules as settling
-use Rattle.conditions.specs.Ladder.{firstNumber, shapeTests}
-use Rattle.conditions.proofs.Steps.{input-parts}
+use Rattle.conditions.specs.Ladder.{shapeTests}
+use Rattle.conditions.proofs.InputParts.{input-parts}
 use Rattle.places.specs.Ordered.{listedOf}
 use Rattle.testing.specs.declared.Tested.{Tested}
 use Rattle.testing.specs.declared.Tested.the-variants.{Refused}
 use Rattle.testing.specs.Content.{contentTests}
 use Rattle.testing.specs.Tested.{orderTests, OrderTested, InputTested}
-use Rattle.testing.proofs.Ladders.{refuses, past, next}
+use Rattle.refusal.proofs.Ladder.{refuses, past, next}
 
 module _ (b : Given) where
   shape-first : inputTests b ≡ shapeTests b ++ orderTests b

@@ -1,5 +1,4 @@
 -- Laws of ladders of conditions, of what a build hands in, of both ladders joined, and of the ranks that are left.
-pub mod Ladders
 pub mod ContentLadder
 pub mod OrderLadder
 pub mod Handing

@@ -5,16 +5,16 @@ use mathlib.Core.List.{List, []}
 use mathlib.Core.Path.{_≡_, refl, sym}
 use native.Mathlib.Omega.{arith}
 use lib.ListN.{length}
-use Rattle.refusal.specs.Outcome.{outcome}
+use Rattle.refusal.specs.Outcome.{outcome, firstNumber}
 use Rattle.grouping.specs.Given.{Given}
 use Rattle.grouping.specs.Conditions.{sharedId, sharedOrder}
-use Rattle.conditions.specs.Ladder.{firstNumber, treeTests, valueTests}
+use Rattle.conditions.specs.Ladder.{treeTests, valueTests}
 use Rattle.places.specs.declared.ordered.Ordered.the-variants.{SameId, SameOrder, Listed}
 use Rattle.places.specs.Ordered.{listedOf, answerOf, InOrder}
 use Rattle.testing.specs.declared.Tested.the-variants.{Refused, Passed}
 use Rattle.testing.specs.Content.{contentTests}
 use Rattle.testing.specs.Tested.{orderTests, OrderTested}
-use Rattle.testing.proofs.Ladders.{refuses, past}
+use Rattle.refusal.proofs.Ladder.{refuses, past}
 
 -- which of both applies, by the answer
 same-id : (s t : Bool) (count : ℕ) → SameId ≡ answerOf s t count → s ≡ true

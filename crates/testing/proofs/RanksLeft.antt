@@ -14,7 +14,7 @@ use Rattle.lists.proofs.Position.{mem-getD}
 use Rattle.lists.proofs.Range.{length-range}
 use Rattle.lists.proofs.Sort.{mem-sort, sort-mem}
 use Rattle.sorts.specs.ById.{byId}
-use Rattle.sorts.proofs.Halves.{sort-length}
+use Rattle.lists.proofs.Rearranged.{sort-length}
 use Rattle.grouping.specs.Given.{Given, isListed}
 use Rattle.settling.specs.Modules.{Passed}
 use Rattle.conditions.proofs.CountsLeft.{counts-passed}

@@ -8,7 +8,8 @@ use Rattle.grouping.specs.Given.{Given, Areas}
 use Rattle.grouping.specs.Conditions.{pairs, scratchNeed, stateTests}
 use Rattle.conditions.specs.declared.AreaLengths.{AreaLengths}
 use Rattle.conditions.specs.HandsIn.{pairLimit}
-use Rattle.conditions.specs.Ladder.{firstNumber, HandsAreas}
+use Rattle.conditions.specs.Ladder.{HandsAreas}
+use Rattle.refusal.specs.Outcome.{firstNumber}
 use Rattle.testing.specs.Tested.{HandsState}
 
 -- no more pairs than answers, so the count fits

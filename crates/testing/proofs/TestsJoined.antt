@@ -3,16 +3,15 @@ use Prim.Native.Nat.{ℕ, _<_}
 use mathlib.Core.List.{List, []}
 use mathlib.Core.Path.{_≡_, refl, sym, _∙_}
 use lib.ListN.{length}
-use Rattle.refusal.specs.Outcome.{Test, refused, accepted, outcome}
+use Rattle.refusal.specs.Outcome.{Test, refused, accepted, outcome, firstNumber}
 use Rattle.refusal.proofs.Lowest.{accepts}
 use Rattle.grouping.specs.Given.{Given, Areas}
 use Rattle.grouping.specs.Conditions.{inputTests, scratchNeed, stateTests}
 use Rattle.grouping.specs.Call.{chunksTests}
-use Rattle.conditions.specs.Ladder.{firstNumber}
 use Rattle.places.specs.Ordered.{listedOf}
 use Rattle.testing.specs.declared.Tested.the-variants.{Refused, Passed}
 use Rattle.testing.specs.Tested.{InputTested, InputPassed}
-use Rattle.testing.proofs.Ladders.{refuses, past, still-refused, goes-on}
+use Rattle.refusal.proofs.Ladder.{refuses, past, still-refused, goes-on}
 use Rattle.testing.proofs.InputLadder.{passed-all}
 
 -- the conditions of the state for a build and areas

@@ -4,7 +4,7 @@ use conditions::ladder::value_number;
 use conditions::limits::bad_limit;
 use options::Options;
 ghost use mathlib.Core.Path.{_≡_};
-ghost use Rattle.conditions.specs.Ladder.{firstNumber};
+ghost use Rattle.refusal.specs.Outcome.{firstNumber};
 ghost use Rattle.grouping.specs.Given.{Given};
 ghost use Rattle.testing.specs.Content.{contentTests, ContentReady, HandsContent};
 

@@ -5,7 +5,7 @@ use conditions::names::count_pairs;
 ghost use mathlib.Core.Path.{_≡_};
 ghost use Rattle.grouping.specs.Given.{Given, Areas};
 ghost use Rattle.grouping.specs.Conditions.{scratchNeed, stateTests};
-ghost use Rattle.conditions.specs.Ladder.{firstNumber};
+ghost use Rattle.refusal.specs.Outcome.{firstNumber};
 ghost use Rattle.conditions.specs.Names.{AnswersWithin};
 ghost use Rattle.testing.specs.Tested.{HandsState};
 

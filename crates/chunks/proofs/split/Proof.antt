@@ -5,10 +5,9 @@ use mathlib.Core.Path.{_≡_, refl, sym, _∙_, subst}
 use native.Mathlib.Omega.{arith}
 use lib.ListN.{length}
 use lib.Seq.{length-take-le}
-use Rattle.refusal.specs.Outcome.{Test}
+use Rattle.refusal.specs.Outcome.{Test, firstNumber}
 use Rattle.grouping.specs.Given.{Given, Areas}
 use Rattle.grouping.specs.Conditions.{scratchNeed, stateTests}
-use Rattle.conditions.specs.Ladder.{firstNumber}
 use Rattle.testing.specs.declared.Tested.{Tested}
 use Rattle.testing.specs.declared.Tested.the-variants.{Passed}
 use Rattle.testing.specs.Tested.{InputTested}

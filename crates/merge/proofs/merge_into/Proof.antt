@@ -13,23 +13,23 @@ areas s = record { numbers = s .args .final-numbers .now; sizes = s .args .final
 mul-words : tie.Need-mul-words
 mul-words c = search needs
 
-slice-relend-prefix-copy : tie.Need-slice-relend-prefix-copy
-slice-relend-prefix-copy c = search needs
+slice-relend-prefix-copy-numbers : tie.Need-slice-relend-prefix-copy-numbers
+slice-relend-prefix-copy-numbers c = search needs
 
-slice-aggregate-copy : tie.Need-slice-aggregate-copy
-slice-aggregate-copy c = let s = c .before .before .before .before .before .before in sym (sizes-part (s .args .k) (s .args .sizes .now) (s .args .bits .now) (areas s) (s .pre))
+slice-aggregate-copy-numbers : tie.Need-slice-aggregate-copy-numbers
+slice-aggregate-copy-numbers c = let s = c .before .before .before .before .before .before in sym (sizes-part (s .args .k) (s .args .sizes .now) (s .args .bits .now) (areas s) (s .pre))
 
-copy-requires : tie.Need-copy-requires
-copy-requires c κs = let s = c .before .before .before .before .before .before in sizes-part (s .args .k) (s .args .sizes .now) (s .args .bits .now) (areas s) (s .pre) ∙ sym (s .pre .sizes-fit)
+copy-numbers-requires : tie.Need-copy-numbers-requires
+copy-numbers-requires c κs = let s = c .before .before .before .before .before .before in s .pre .sizes-fit ∙ sym (sizes-part (s .args .k) (s .args .sizes .now) (s .args .bits .now) (areas s) (s .pre))
 
-slice-relend-prefix-copy-2 : tie.Need-slice-relend-prefix-copy-2
-slice-relend-prefix-copy-2 c = search needs
+slice-relend-prefix-copy-numbers-2 : tie.Need-slice-relend-prefix-copy-numbers-2
+slice-relend-prefix-copy-numbers-2 c = search needs
 
-slice-aggregate-copy-2 : tie.Need-slice-aggregate-copy-2
-slice-aggregate-copy-2 c = let s = c .before .before .before .before .before .before .before .before .before .before in sym (bits-part (s .args .k) (s .args .sizes .now) (s .args .bits .now) (areas s) (s .pre))
+slice-aggregate-copy-numbers-2 : tie.Need-slice-aggregate-copy-numbers-2
+slice-aggregate-copy-numbers-2 c = let s = c .before .before .before .before .before .before .before .before .before .before in sym (bits-part (s .args .k) (s .args .sizes .now) (s .args .bits .now) (areas s) (s .pre))
 
-copy-requires-2 : tie.Need-copy-requires-2
-copy-requires-2 c κs = let s = c .before .before .before .before .before .before .before .before .before .before in bits-part (s .args .k) (s .args .sizes .now) (s .args .bits .now) (areas s) (s .pre) ∙ sym (s .pre .bits-fit)
+copy-numbers-requires-2 : tie.Need-copy-numbers-requires-2
+copy-numbers-requires-2 c κs = let s = c .before .before .before .before .before .before .before .before .before .before in s .pre .bits-fit ∙ sym (bits-part (s .args .k) (s .args .sizes .now) (s .args .bits .now) (areas s) (s .pre))
 
 slice-relend-prefix-merge-in-place : tie.Need-slice-relend-prefix-merge-in-place
 slice-relend-prefix-merge-in-place c = search needs
@@ -45,7 +45,7 @@ slice-aggregate-merge-in-place-2 c =
     let f = c .before .before .before .before in
     let e = f .before .before .before .before in
     let s = c .before .before .before .before .before .before .before .before .before .before .before .before .before .before .before in
-    sizes-part₂ (s .args .k) (s .args .sizes .now) (s .args .bits .now) (areas s) (s .pre) (e .copy .last .0) (f .copy2 .last .0) (e .copy .ensures) (f .copy2 .ensures)
+    sizes-part₂ (s .args .k) (s .args .sizes .now) (s .args .bits .now) (areas s) (s .pre) (e .copy-numbers .last .1 .0) (f .copy-numbers2 .last .1 .0) (e .copy-numbers .ensures) (f .copy-numbers2 .ensures)
 
 slice-relend-prefix-merge-in-place-3 : tie.Need-slice-relend-prefix-merge-in-place-3
 slice-relend-prefix-merge-in-place-3 c = search needs
@@ -55,14 +55,14 @@ slice-aggregate-merge-in-place-3 c =
     let f = c .before .before .before .before .before in
     let e = f .before .before .before .before in
     let s = c .before .before .before .before .before .before .before .before .before .before .before .before .before .before .before .before in
-    bits-part₂ (s .args .k) (s .args .sizes .now) (s .args .bits .now) (areas s) (s .pre) (e .copy .last .0) (f .copy2 .last .0) (e .copy .ensures) (f .copy2 .ensures)
+    bits-part₂ (s .args .k) (s .args .sizes .now) (s .args .bits .now) (areas s) (s .pre) (e .copy-numbers .last .1 .0) (f .copy-numbers2 .last .1 .0) (e .copy-numbers .ensures) (f .copy-numbers2 .ensures)
 
 merge-in-place-requires : tie.Need-merge-in-place-requires
 merge-in-place-requires c κs =
     let f = c .before .before .before .before .before in
     let e = f .before .before .before .before in
     let s = c .before .before .before .before .before .before .before .before .before .before .before .before .before .before .before .before in
-    mergeable (s .args .k) (s .args .sizes .now) (s .args .bits .now) (areas s) (s .pre) (e .copy .last .0) (f .copy2 .last .0) (e .copy .ensures) (f .copy2 .ensures)
+    mergeable (s .args .k) (s .args .sizes .now) (s .args .bits .now) (areas s) (s .pre) (e .copy-numbers .last .1 .0) (f .copy-numbers2 .last .1 .0) (e .copy-numbers .ensures) (f .copy-numbers2 .ensures)
 
 same-length : tie.Need-same-length
 same-length c = search needs
@@ -79,7 +79,7 @@ returns c =
     let f = m .before .before .before .before .before .before in
     let e = f .before .before .before .before in
     let s = c .before .before .before .before .before .before .before .before .before .before .before .before .before .before .before .before .before .before .before .before .before .before .before in
-    merged-in (s .args .k) (s .args .sizes .now) (s .args .bits .now) (areas s) (s .pre) (e .copy .last .0) (f .copy2 .last .0) (e .copy .ensures) (f .copy2 .ensures) (s .args .threshold)
+    merged-in (s .args .k) (s .args .sizes .now) (s .args .bits .now) (areas s) (s .pre) (e .copy-numbers .last .1 .0) (f .copy-numbers2 .last .1 .0) (e .copy-numbers .ensures) (f .copy-numbers2 .ensures) (s .args .threshold)
     (m .merge-in-place .last .0) (m .merge-in-place .last .1 .0) (m .merge-in-place .last .1 .1 .0) (m .merge-in-place .ensures)
 
 pub merge-into-spec : {M : Type 1} → statement M
@@ -87,12 +87,12 @@ merge-into-spec =
     tie.close
     (tie.spec
     mul-words
-    slice-relend-prefix-copy
-    slice-aggregate-copy
-    copy-requires
-    slice-relend-prefix-copy-2
-    slice-aggregate-copy-2
-    copy-requires-2
+    slice-relend-prefix-copy-numbers
+    slice-aggregate-copy-numbers
+    copy-numbers-requires
+    slice-relend-prefix-copy-numbers-2
+    slice-aggregate-copy-numbers-2
+    copy-numbers-requires-2
     slice-relend-prefix-merge-in-place
     slice-aggregate-merge-in-place
     slice-relend-prefix-merge-in-place-2

@@ -13,7 +13,7 @@ use Rattle.lists.proofs.Below.{any-none, any-some}
 use Rattle.records.specs.Bad.{badChain}
 use Rattle.records.specs.Chain.{ended}
 use Rattle.records.specs.Marks.{Known}
-use Rattle.records.proofs.Stored.{record-marked, unmarked-some}
+use Rattle.records.proofs.ChainMarks.{record-marked, unmarked-some}
 use Rattle.records.proofs.Known.{known-none, known-more, Along, along-start, along-next, along-known, along-none}
 use Rattle.records.proofs.bad_chain.Statement.{statement}
 use Rattle.records.proofs.bad_chain.Tie as tie

@@ -5,7 +5,7 @@ use mir.Facts.{fits-32-64}
 use mathlib.Core.Path.{sym}
 use lib.ListN.{length}
 use Rattle.records.specs.Chain.{chainFrom}
-use Rattle.records.proofs.Stored.{record-marked}
+use Rattle.records.proofs.ChainMarks.{record-marked}
 use Rattle.records.proofs.Marking.{Marking, marking-begins, marking-ends, marking-less, marking-turns}
 use Rattle.records.proofs.know_chain.Statement.{statement}
 use Rattle.records.proofs.know_chain.Tie as tie

@@ -7,7 +7,7 @@ use borrow.Author.Needs.{needs}
 use mir.Facts.{fits-32-64}
 use lib.ListN.{length}
 use Rattle.records.specs.Chain.{chainFrom, chainOf, dependencies}
-use Rattle.records.proofs.Stored.{record-marked}
+use Rattle.records.proofs.ChainMarks.{record-marked}
 use Rattle.records.proofs.Table.{Good, good}
 use Rattle.capture.proofs.Chains.{Following, follow-begins, follow-ends, followed-ends, follow-less, follow-turns, named-in}
 use Rattle.capture.proofs.walk.follow.Statement.{statement}

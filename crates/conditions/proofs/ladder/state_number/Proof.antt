@@ -1,8 +1,8 @@
 -- `conditions::ladder::state_number` meets its contract: the first condition that applies gives the number.
 use mathlib.Core.Path.{sym, _∙_}
 use borrow.Author.Needs.{needs}
+use Rattle.refusal.proofs.Ladder.{none-applies, applies, passes, number, no-number}
 use Rattle.grouping.specs.Conditions.{stateTests}
-use Rattle.conditions.proofs.Steps.{applies, passes, ends}
 use Rattle.conditions.proofs.ladder.state_number.Statement.{statement}
 use Rattle.conditions.proofs.ladder.state_number.Tie as tie
 
@@ -13,7 +13,7 @@ returns : tie.Need-returns
 unfolding stateTests
 returns c =
     λ b a h.
-    applies _ _ _ (sym (c .before .bad-entry-count .ensures) ∙ c .if1 .taken)
+    number (applies (sym (c .before .bad-entry-count .ensures) ∙ c .if1 .taken))
 
 bad-area-requires : tie.Need-bad-area-requires
 bad-area-requires c κs = search needs
@@ -22,8 +22,8 @@ returns-2 : tie.Need-returns-2
 unfolding stateTests
 returns-2 c =
     λ b a h.
-    passes _ _ _ _ (sym (c .before .before .before .bad-entry-count .ensures) ∙ c .before .before .if1 .left)
-    (applies _ _ _ (sym (c .before .bad-area .ensures a (h .areas)) ∙ c .if2 .taken))
+    number (passes (sym (c .before .before .before .bad-entry-count .ensures) ∙ c .before .before .if1 .left)
+    (applies (sym (c .before .bad-area .ensures a (h .areas)) ∙ c .if2 .taken)))
 
 scratch-short-requires : tie.Need-scratch-short-requires
 scratch-short-requires c κs = search needs
@@ -32,17 +32,17 @@ returns-3 : tie.Need-returns-3
 unfolding stateTests
 returns-3 c =
     λ b a h.
-    passes _ _ _ _ (sym (c .before .before .before .before .before .bad-entry-count .ensures) ∙ c .before .before .before .before .if1 .left)
-    (passes _ _ _ _ (sym (c .before .before .before .bad-area .ensures a (h .areas)) ∙ c .before .before .if2 .left)
-    (applies _ _ _ (sym (c .before .scratch-short .ensures b (a .scratch) (h .module-count) (h .pair-count) (h .words)) ∙ c .if3 .taken)))
+    number (passes (sym (c .before .before .before .before .before .bad-entry-count .ensures) ∙ c .before .before .before .before .if1 .left)
+    (passes (sym (c .before .before .before .bad-area .ensures a (h .areas)) ∙ c .before .before .if2 .left)
+    (applies (sym (c .before .scratch-short .ensures b (a .scratch) (h .module-count) (h .pair-count) (h .words)) ∙ c .if3 .taken))))
 
 returns-4 : tie.Need-returns-4
 unfolding stateTests
 returns-4 c =
     λ b a h.
-    passes _ _ _ _ (sym (c .before .before .before .before .before .bad-entry-count .ensures) ∙ c .before .before .before .before .if1 .left)
-    (passes _ _ _ _ (sym (c .before .before .before .bad-area .ensures a (h .areas)) ∙ c .before .before .if2 .left)
-    (passes _ _ _ _ (sym (c .before .scratch-short .ensures b (a .scratch) (h .module-count) (h .pair-count) (h .words)) ∙ c .if3 .left) ends))
+    no-number (passes (sym (c .before .before .before .before .before .bad-entry-count .ensures) ∙ c .before .before .before .before .if1 .left)
+    (passes (sym (c .before .before .before .bad-area .ensures a (h .areas)) ∙ c .before .before .if2 .left)
+    (passes (sym (c .before .scratch-short .ensures b (a .scratch) (h .module-count) (h .pair-count) (h .words)) ∙ c .if3 .left) none-applies)))
 
 pub state-number-spec : {M : Type 1} → statement M
 state-number-spec =

@@ -12,13 +12,14 @@ use Rattle.lists.specs.Range.{range}
 use Rattle.whole.specs.Double.{toF64, sumF64}
 use Rattle.whole.proofs.Exact.{total-less-part}
 use Rattle.ids.specs.Parts.{idsOf}
+use Rattle.ids.proofs.IdParts.{ids-length}
 use Rattle.cut.specs.Candidate.{candidateAt}
 use Rattle.cut.specs.Scan.{considered, chosenFrom}
 use Rattle.cut.specs.declared.scan.Best.the-variants.{Nothing}
 use Rattle.cut.specs.declared.scan.Bounds.{Bounds}
 use Rattle.cut.proofs.InOrder.{held}
 use Rattle.cut.proofs.Totals.{no-size, size-next}
-use Rattle.cut.proofs.GivenOrder.{length-given, pair-given, place-given}
+use Rattle.cut.proofs.GivenOrder.{pair-given, place-given}
 use Rattle.cut.proofs.Scanning.{scan-cuts, looked-at}
 use Rattle.cut.proofs.given.pick_given.Statement.{statement}
 use Rattle.cut.proofs.given.pick_given.Tie as tie
@@ -99,7 +100,7 @@ returns c =
     let l = a .sizes .now in
     let ids = idsOf (length l) (a .bytes .now) (a .offsets .now) in
     let i = c .before .before .loop .i in
-    let all : i - 1 ≡ length ids - 1 = omega (arith, length-given (length l) (a .bytes .now) (a .offsets .now)) in
+    let all : i - 1 ≡ length ids - 1 = omega (arith, ids-length (length l) (a .bytes .now) (a .offsets .now)) in
     c .into-cut .ensures
     ∙ ap chosenFrom (c .before .before .loop .inv .3)
     ∙ scan-cuts (record { minimum = a .minimum; maximum = a .maximum }) ids l (i - 1) all

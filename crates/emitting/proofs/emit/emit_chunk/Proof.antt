@@ -1,7 +1,7 @@
 -- `emitting::emit::emit_chunk` meets its contract: what the calls write, field by field, is the chunk.
 use mathlib.Core.Path.{ap, _∙_}
 use borrow.Author.Needs.{needs}
-use Rattle.emitting.specs.Emitted.{withWords}
+use Rattle.bitset.specs.Rows.{withRow}
 use Rattle.emitting.proofs.Chunk.{written-chunk}
 use Rattle.emitting.proofs.emit.emit_chunk.Statement.{statement}
 use Rattle.emitting.proofs.emit.emit_chunk.Tie as tie
@@ -18,8 +18,8 @@ add-modules-to-chunk-requires c κs = search needs
 store-fields-requires : tie.Need-store-fields-requires
 store-fields-requires c κs = search needs
 
-store-bits-requires : tie.Need-store-bits-requires
-store-bits-requires c κs = search needs
+store-row-requires : tie.Need-store-row-requires
+store-row-requires c κs = search needs
 
 same-length : tie.Need-same-length
 same-length c = search needs
@@ -48,7 +48,7 @@ returns c =
       group = fields .store-fields .ensures .0;
       name = fields .store-fields .ensures .1 .0;
       size = fields .store-fields .ensures .1 .1;
-      words = stored .store-bits .ensures ∙ ap (withWords (a .bits-of .now) (a .at)) (own .chunk-bits .ensures);
+      words = stored .store-row .ensures ∙ ap (withRow (a .bits-of .now) (a .at)) (own .chunk-bits .ensures);
     })
 
 pub emit-chunk-spec : {M : Type 1} → statement M
@@ -59,7 +59,7 @@ emit-chunk-spec =
     add-add-modules-to-chunk
     add-modules-to-chunk-requires
     store-fields-requires
-    store-bits-requires
+    store-row-requires
     same-length
     same-length-2
     same-length-3

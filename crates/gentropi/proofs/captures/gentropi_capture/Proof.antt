@@ -1,8 +1,8 @@
 -- `gentropi::captures::gentropi_capture` meets its contract: the number is that of the callee's answer, and the areas are as the callee left them.
-use mathlib.Core.Path.{sym, ap, _∙_}
+use mathlib.Core.Path.{ap}
 use borrow.Author.Needs.{needs}
+use Rattle.refusal.proofs.Calls.{exported}
 use Rattle.capture.specs.Call.{outcomeOf}
-use Rattle.gentropi.proofs.Answering.{number-of}
 use Rattle.gentropi.proofs.captures.gentropi_capture.Statement.{statement}
 use Rattle.gentropi.proofs.captures.gentropi_capture.Tie as tie
 
@@ -25,8 +25,7 @@ same-length-2 c = search needs
 returns : tie.Need-returns
 returns c =
     let called = c .before .before .before .before .before .before .before .add-module-and-dependencies-to-group-recursively .ensures in
-    let same = sym (ap outcomeOf (c .before .answer .given .1)) ∙ called .number in
-    record { number = number-of same; refusal = called .refusal; answered = called .answered }
+    exported (ap outcomeOf (c .before .answer .given .1)) called
 
 same-length-3 : tie.Need-same-length-3
 same-length-3 c = search needs
@@ -37,8 +36,7 @@ same-length-4 c = search needs
 returns-2 : tie.Need-returns-2
 returns-2 c =
     let called = c .before .before .before .before .before .before .add-module-and-dependencies-to-group-recursively .ensures in
-    let same = sym (ap outcomeOf (c .enum-told .given .1)) ∙ called .number in
-    record { number = number-of same; refusal = called .refusal; answered = called .answered }
+    exported (ap outcomeOf (c .enum-told .given .1)) called
 
 pub gentropi-capture-spec : {M : Type 1} → statement M
 gentropi-capture-spec =

@@ -1,8 +1,8 @@
 -- `gentropi::merges::gentropi_merge` meets its contract: the number is that of the callee's answer, and the areas are as the callee left them.
-use mathlib.Core.Path.{sym, ap, _∙_}
+use mathlib.Core.Path.{ap}
 use borrow.Author.Needs.{needs}
+use Rattle.refusal.proofs.Calls.{exported}
 use Rattle.merge.specs.Call.{outcomeOf}
-use Rattle.gentropi.proofs.Answering.{number-of}
 use Rattle.gentropi.proofs.merges.gentropi_merge.Statement.{statement}
 use Rattle.gentropi.proofs.merges.gentropi_merge.Tie as tie
 
@@ -27,8 +27,7 @@ same-length-3 c = search needs
 returns : tie.Need-returns
 returns c =
     let called = c .before .before .before .before .before .before .before .before .before .merge-entries-aware-subgroups .ensures in
-    let same = sym (ap outcomeOf (c .before .answer .given .1)) ∙ called .number in
-    record { number = number-of same; refusal = called .refusal; answered = called .answered }
+    exported (ap outcomeOf (c .before .answer .given .1)) called
 
 same-length-4 : tie.Need-same-length-4
 same-length-4 c = search needs
@@ -42,8 +41,7 @@ same-length-6 c = search needs
 returns-2 : tie.Need-returns-2
 returns-2 c =
     let called = c .before .before .before .before .before .before .before .before .merge-entries-aware-subgroups .ensures in
-    let same = sym (ap outcomeOf (c .enum-told .given .1)) ∙ called .number in
-    record { number = number-of same; refusal = called .refusal; answered = called .answered }
+    exported (ap outcomeOf (c .enum-told .given .1)) called
 
 pub gentropi-merge-spec : {M : Type 1} → statement M
 gentropi-merge-spec =

@@ -5,7 +5,7 @@ use native.Mathlib.Omega.{arith}
 use borrow.Author.Needs.{needs}
 use lib.ListN.{length, take, drop, replicate, length-replicate}
 use lib.Seq.{length-take-le, length-front, take-at}
-use Rattle.records.proofs.Stored.{zeros}
+use Rattle.lists.proofs.Stored.{zeros}
 use Rattle.capture.specs.Followed.{unfollowed}
 use Rattle.capture.proofs.Trail.{unfollowed-bytes}
 use Rattle.emitting.proofs.Chunk.{SameLengths, same-lengths}
@@ -75,17 +75,17 @@ array-borrow-prefix-closed c =
           .before .before .before .before .before .before .before .before .pre .0),
     )
 
-slice-aggregate-copy-flags : tie.Need-slice-aggregate-copy-flags Inv-loop μ-loop
-slice-aggregate-copy-flags c =
+slice-aggregate-copy-bytes : tie.Need-slice-aggregate-copy-bytes Inv-loop μ-loop
+slice-aggregate-copy-bytes c =
     let s = c .before .before .before .before .before .before .before .before .before .before .before .before .before .before .before .before .before .before
     .before .before .before .before .before .before in
     sym (zeros-front (s .args .n) (given-few (s .pre .0)))
 
-copy-flags-requires : tie.Need-copy-flags-requires Inv-loop μ-loop
-copy-flags-requires c κs =
+copy-bytes-requires : tie.Need-copy-bytes-requires Inv-loop μ-loop
+copy-bytes-requires c κs =
     let s = c .before .before .before .before .before .before .before .before .before .before .before .before .before .before .before .before .before .before
     .before .before .before .before .before .before in
-    zeros-front (s .args .n) (given-few (s .pre .0)) ∙ sym (given-flags (s .pre .0))
+    given-flags (s .pre .0) ∙ sym (zeros-front (s .args .n) (given-few (s .pre .0)))
 
 loop-holds : tie.Need-loop-holds Inv-loop μ-loop
 unfolding unfollowed
@@ -94,7 +94,7 @@ loop-holds c =
     .before .before .before .before .before .before .before .before in
     let p = s .pre .0 in
     let n = s .args .n in
-    let r = c .before .copy-flags in
+    let r = c .before .copy-bytes in
     let front = r .last .1 .0 in (
       none-turned,
       same-lengths _,
@@ -289,8 +289,8 @@ convert-groups-to-chunks-spec =
     slice-aggregate-store-places
     store-places-requires
     array-borrow-prefix-closed
-    slice-aggregate-copy-flags
-    copy-flags-requires
+    slice-aggregate-copy-bytes
+    copy-bytes-requires
     loop-holds
     mul-g
     shared-slice-read-g

@@ -6,8 +6,8 @@ use native.Mathlib.Omega.{arith}
 use mir.Facts.{fits-32-64}
 use lib.ListN.{length, getD, take, length-map, length-set}
 use Rattle.lists.proofs.Map.{getD-map-below}
-use Rattle.records.specs.Marks.{stored}
-use Rattle.capture.proofs.Storing.{stored-none, stored-more, stored-all}
+use Rattle.lists.specs.Stored.{stored}
+use Rattle.lists.proofs.Stored.{stored-none, stored-more, stored-all}
 use Rattle.sets.specs.Gathered.{blockOf}
 use Rattle.sets.proofs.gathered.mark_blocks.Statement.{statement}
 use Rattle.sets.proofs.gathered.mark_blocks.Tie as tie

@@ -3,7 +3,8 @@ use mathlib.Core.Path.{_≡_, _∙_}
 use native.Mathlib.Omega.{arith}
 use borrow.Author.Needs.{needs}
 use Rattle.grouping.specs.Given.{Given, Shared, Variant}
-use Rattle.conditions.specs.Ladder.{firstNumber, shapeTests}
+use Rattle.conditions.specs.Ladder.{shapeTests}
+use Rattle.refusal.specs.Outcome.{firstNumber}
 use Rattle.testing.specs.Tested.{HandsAll}
 use Rattle.testing.proofs.Handing.{build, hands-itself, hands-shape, hands-order, hands-content, content-ready, order-ready}
 use Rattle.testing.proofs.InputLadder.{shape-refuses, order-decides}

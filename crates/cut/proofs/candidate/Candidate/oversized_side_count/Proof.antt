@@ -1,17 +1,13 @@
 -- `cut::candidate::Candidate::oversized_side_count` meets its contract: each side counts 1 or 0, so the sum can't wrap.
-use Prim.Native.Nat.{_+_, _≤_}
-use mathlib.Core.Bool.{Bool, true, false, cond}
+use Prim.Native.Nat.{_+_}
 use mathlib.Core.Path.{ap₂}
 use native.Mathlib.Omega.{arith}
 use borrow.Author.Needs.{needs}
 use lib.Ieee.{lt}
+use Rattle.lists.proofs.Count.{one-at-most}
 use Rattle.cut.specs.Candidate.{oversized}
 use Rattle.cut.proofs.candidate.Candidate.oversized_side_count.Statement.{statement}
 use Rattle.cut.proofs.candidate.Candidate.oversized_side_count.Tie as tie
-
-at-most-one : (b : Bool) → cond b 1 0 ≤ 1
-at-most-one true = omega arith
-at-most-one false = omega arith
 
 above-requires : tie.Need-above-requires
 above-requires c κs = search needs
@@ -22,7 +18,7 @@ above-requires-2 c κs = search needs
 add-result : tie.Need-add-result
 add-result c =
     let a = c .before .before .args in
-    omega (arith, c .before .above .ensures, c .above2 .ensures, at-most-one (lt (a .maximum) (a .self .left)), at-most-one (lt (a .maximum) (a .self .right)))
+    omega (arith, c .before .above .ensures, c .above2 .ensures, one-at-most (lt (a .maximum) (a .self .left)), one-at-most (lt (a .maximum) (a .self .right)))
 
 returns : tie.Need-returns
 unfolding oversized
