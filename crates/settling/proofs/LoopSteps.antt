@@ -1,4 +1,4 @@
--- One more turn of a loop over the items, the names or the groups: the fold of one element more.
+-- One more turn of a loop over the items or the names: the fold of one element more.
 use Prim.Native.Nat.{ℕ, suc, _<_}
 use mathlib.Core.List.{List, [], _∷_, _++_, foldl}
 use mathlib.Core.Path.{_≡_, ap, _∙_}

@@ -1,5 +1,5 @@
--- The pieces of a list are parts of it: laid end to end from the last to the first they are the list, none is empty where the list isn't,
--- and they are at most as many as its elements.
+-- The pieces of a list are parts of it: laid end to end from the last to the first they are the list, and they are at most as many as its
+-- elements.
 use Prim.Native.Nat.{ℕ, _≤_}
 use mathlib.Core.List.{List, [], _∷_, _++_, append-assoc, append-nil, List·Memᴰ, List·Memᴰ·append-cases, List·Memᴰ·eq-of-singleton}
 use mathlib.Core.Logic.{⊎-elim}

@@ -1,5 +1,5 @@
 -- What holds of the chunks after any items, for a run that writes chunk records one after another: no chunk is empty, no two share a place,
--- each is a part of an item, and chunks are only added.
+-- and each is a part of an item.
 use Prim.Native.Nat.{ℕ, suc, _≤_, _<_}
 use mathlib.Core.List.{
   List,
