@@ -1,6 +1,7 @@
 // Whole builds of the text form, with the lines that spoil them, read into rows of tables.
 pub mod damage;
 pub mod lengths;
+mod wordlist;
 
 use buildlines::entries;
 use buildlines::fields;
