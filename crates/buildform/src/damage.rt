@@ -1,11 +1,11 @@
 // The lines that spoil a build before it is handed over.
 use crate::lengths;
-use crate::wordlist;
 use buildlines::entries;
 use buildlines::rows;
 use textform::numbers;
 use textform::words;
 use textform::words::Span;
+use withlines::wordlist;
 ghost use Prim.Native.Nat.{_<_, _≤_};
 
 // What stands for all tables of groups. A word that names no table stands past it.
@@ -154,10 +154,7 @@ fn read_line(
 ) -> usize
     requires { ⌜ n ≤ 64 ⌝ }
 {
-    let line = wordlist::place_of(
-        words::part(text, step),
-        b"offsets len count areas records",
-    );
+    let line = wordlist::place_of(words::part(text, step), b"offsets len count areas records");
     let at = step.to;
     match line {
         0 => read_offsets(text, at, n, shorts),

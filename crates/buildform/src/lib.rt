@@ -1,7 +1,6 @@
 // Whole builds of the text form, with the lines that spoil them, read into rows of tables.
 pub mod damage;
 pub mod lengths;
-mod wordlist;
 
 use buildlines::entries;
 use buildlines::fields;

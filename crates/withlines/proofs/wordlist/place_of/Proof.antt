@@ -1,10 +1,10 @@
--- `buildform::wordlist::place_of` is safe and ends. The measure is what is left of the list.
+-- `withlines::wordlist::place_of` is safe and ends. The measure is what is left of the list.
 use Prim.Native.Nat.{_-_, _≤_}
 use native.Mathlib.Omega.{arith}
 use lib.ListN.{length}
 use borrow.Author.Needs.{needs}
-use Rattle.buildform.proofs.wordlist.place_of.Statement.{statement}
-use Rattle.buildform.proofs.wordlist.place_of.Tie as tie
+use Rattle.withlines.proofs.wordlist.place_of.Statement.{statement}
+use Rattle.withlines.proofs.wordlist.place_of.Tie as tie
 
 abbrev Inv-loop : tie.InvT-loop
 Inv-loop word list at₀ i₀ at i = i ≤ at
