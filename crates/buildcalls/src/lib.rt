@@ -1,4 +1,4 @@
-// One call of Chunks, and its answer in the text form.
+// One call of Chunks, and its answer.
 use chunks::ChunksAnswer;
 use listform::areas;
 use listform::list;
@@ -29,6 +29,12 @@ pub struct Lent {
     pub scratch: usize,
 }
 
+// How the answer is printed: in the text form, with what the areas show to be wrong, or as a table of the chunks.
+pub enum Form {
+    Text,
+    Table,
+}
+
 fn least(a: usize, b: usize) -> usize
     ensures { λ r. ⌜ r ≤ b ⌝ }
 {
@@ -38,8 +44,34 @@ fn least(a: usize, b: usize) -> usize
     b
 }
 
-// What is printed of an answer: the list, and what the areas show to be wrong.
-fn show(
+// The chunks as a table.
+fn show_table(
+    answer: ChunksAnswer,
+    chunk_of: &[u32; 128],
+    next_of: &[u32; 128],
+    first_of: &[u32; 128],
+    group_of: &[u32; 128],
+    name_of: &[u32; 128],
+    size_of: &[f64; 128],
+) {
+    match answer {
+        ChunksAnswer::Refused(number) => chunktable::refused(number),
+        ChunksAnswer::Made(count) => {
+            chunktable::chunks(
+                count,
+                chunk_of,
+                next_of,
+                first_of,
+                group_of,
+                name_of,
+                size_of,
+            )
+        }
+    }
+}
+
+// What is printed of an answer in the text form: the list, and what the areas show to be wrong.
+fn show_text(
     tag: &[u8],
     answer: ChunksAnswer,
     n: usize,
@@ -55,6 +87,7 @@ fn show(
 )
     requires { ⌜ n ≤ 128 ⌝ }
 {
+    out::begin(b"chunks", tag);
     match answer {
         ChunksAnswer::Refused(number) => {
             out::refused(number);
@@ -120,8 +153,57 @@ fn show_list(
     looks::records(tag, made, first_of, group_of, name_of, size_of, bits_of);
 }
 
+fn show(
+    form: Form,
+    tag: &[u8],
+    answer: ChunksAnswer,
+    n: usize,
+    lent: usize,
+    chunk_of: &[u32; 128],
+    next_of: &[u32; 128],
+    first_of: &[u32; 128],
+    group_of: &[u32; 128],
+    name_of: &[u32; 128],
+    size_of: &[f64; 128],
+    bits_of: &[u64; 512],
+    scratch: &[u32; 73728],
+)
+    requires { ⌜ n ≤ 128 ⌝ }
+{
+    match form {
+        Form::Text => {
+            show_text(
+                tag,
+                answer,
+                n,
+                lent,
+                chunk_of,
+                next_of,
+                first_of,
+                group_of,
+                name_of,
+                size_of,
+                bits_of,
+                scratch,
+            )
+        }
+        Form::Table => {
+            show_table(
+                answer,
+                chunk_of,
+                next_of,
+                first_of,
+                group_of,
+                name_of,
+                size_of,
+            )
+        }
+    }
+}
+
 // Lends areas with a pattern in them, calls, and shows the answer.
 pub fn answer(
+    form: Form,
     tag: &[u8],
     counts: Counts,
     flags: &[u8],
@@ -194,8 +276,8 @@ pub fn answer(
         areas::lent_words(&mut bits_of, lent.bits_of),
         areas::lent_numbers(&mut scratch, lent.scratch),
     );
-    out::begin(b"chunks", tag);
     show(
+        form,
         tag,
         answer,
         least(counts.n, 128),

@@ -5,12 +5,11 @@ use buildlines::rows;
 use textform::numbers;
 use textform::words;
 use textform::words::Span;
+use withlines::wordlist;
 ghost use Prim.Native.Nat.{_<_, _≤_};
 
-// What stands for all tables of groups, and for a word that names no table.
+// What stands for all tables of groups. A word that names no table stands past it.
 const GROUPS: usize = 20;
-
-const NO_TABLE: usize = 21;
 
 // offsets O0 .. ON
 fn read_offsets(text: &[u8], at: usize, n: usize, shorts: &mut [u32; 3328]) -> usize
@@ -26,95 +25,12 @@ fn read_offsets(text: &[u8], at: usize, n: usize, shorts: &mut [u32; 3328]) -> u
 }
 
 // The place of a table's length.
-fn module_table(word: &[u8]) -> usize {
-    if check::same(word, b"flags") {
-        return 0;
-    }
-    if check::same(word, b"sizes") {
-        return 1;
-    }
-    if check::same(word, b"orders") {
-        return 2;
-    }
-    if check::same(word, b"shares") {
-        return 3;
-    }
-    if check::same(word, b"tags") {
-        return 4;
-    }
-    if check::same(word, b"bits") {
-        return 5;
-    }
-    NO_TABLE
-}
-
-fn other_table(word: &[u8]) -> usize {
-    if check::same(word, b"offsets") {
-        return 6;
-    }
-    if check::same(word, b"first") {
-        return 7;
-    }
-    if check::same(word, b"dep_module") {
-        return 8;
-    }
-    if check::same(word, b"dep_next") {
-        return 9;
-    }
-    if check::same(word, b"answers") {
-        return 19;
-    }
-    if check::same(word, b"groups") {
-        return GROUPS;
-    }
-    NO_TABLE
-}
-
-fn limit_table(word: &[u8]) -> usize {
-    if check::same(word, b"given") {
-        return 10;
-    }
-    if check::same(word, b"min_size") {
-        return 11;
-    }
-    if check::same(word, b"max_size") {
-        return 12;
-    }
-    if check::same(word, b"min_module_size") {
-        return 13;
-    }
-    if check::same(word, b"max_module_size") {
-        return 14;
-    }
-    NO_TABLE
-}
-
-fn group_table(word: &[u8]) -> usize {
-    if check::same(word, b"min_share_count") {
-        return 15;
-    }
-    if check::same(word, b"mask") {
-        return 16;
-    }
-    if check::same(word, b"priority") {
-        return 17;
-    }
-    if check::same(word, b"threshold") {
-        return 18;
-    }
-    limit_table(word)
-}
-
 fn table_of(word: &[u8]) -> usize {
-    let table = module_table(word);
-    if table != NO_TABLE {
-        return table;
-    }
-    let other = other_table(word);
-    if other != NO_TABLE {
-        return other;
-    }
-    group_table(word)
+    wordlist::place_of(
+        word,
+        b"flags sizes orders shares tags bits offsets first dep_module dep_next \
+          given min_size max_size min_module_size max_module_size min_share_count mask priority threshold answers groups",
+    )
 }
 
 // The length of one table. One that is not as long as the counts imply any more can't be changed again, since a part that was cut off stands
@@ -238,24 +154,16 @@ fn read_line(
 ) -> usize
     requires { ⌜ n ≤ 64 ⌝ }
 {
-    let word = words::part(text, step);
+    let line = wordlist::place_of(words::part(text, step), b"offsets len count areas records");
     let at = step.to;
-    if check::same(word, b"offsets") {
-        return read_offsets(text, at, n, shorts);
+    match line {
+        0 => read_offsets(text, at, n, shorts),
+        1 => read_length(text, at, implied, all),
+        2 => read_count(text, at, counts),
+        3 => read_areas(text, at, areas),
+        4 => read_records(text, at, areas),
+        _ => words::NOWHERE,
     }
-    if check::same(word, b"len") {
-        return read_length(text, at, implied, all);
-    }
-    if check::same(word, b"count") {
-        return read_count(text, at, counts);
-    }
-    if check::same(word, b"areas") {
-        return read_areas(text, at, areas);
-    }
-    if check::same(word, b"records") {
-        return read_records(text, at, areas);
-    }
-    words::NOWHERE
 }
 
 // The lines up to `end`, at most 64.

@@ -1,7 +1,7 @@
 // The tables of the largest build, changed and handed over.
-use crate::lend;
 use buildlines::rows;
 use filter::MinShareCount;
+use largestcalls::lend;
 use largesttables::counts;
 use largesttables::fill;
 use largesttables::spoil;

@@ -1,15 +1,11 @@
 // Runs the largest build, and the same with one change each, mostly in the last entry of a table: a line for each says what is changed, and
 // what comes of it. Every entry of every lent area is looked at; what is wrong is a line that begins with `!`.
 mod build;
-mod labels;
-mod lend;
-mod looks;
-mod show;
 
 fn main() {
     let mut change = 0;
     while change < 29 {
-        labels::label(change);
+        largestlist::labels::label(change);
         build::run(change);
         change = change + 1;
     }

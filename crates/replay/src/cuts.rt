@@ -2,7 +2,6 @@
 use cut::Cut;
 use cut::CutAnswer;
 use index::ModuleIdx;
-use tablecalls::looks;
 use textform::doubles;
 use textform::numbers;
 use textform::numbers::Field;
@@ -90,11 +89,11 @@ fn spoil_offsets(with: &[u8], n: usize, offsets: &mut [u32; 4099])
 fn all_known(with: &[u8], n: usize) -> bool
     requires { ⌜ n ≤ 4097 ⌝ }
 {
-    let moved = withlines::known(with, b"offsets", b"", n + 1);
-    let offsets = withlines::known(with, b"len", b"offsets", 1);
-    let sizes = withlines::known(with, b"len", b"sizes", 1);
-    let count = withlines::known(with, b"count", b"n", 1);
-    looks::sum(looks::sum(moved, offsets), looks::sum(sizes, count)) == withlines::all(with)
+    withlines::all_listed(
+        with,
+        b"len offsets\nlen sizes\ncount n",
+        withlines::known(with, b"offsets", b"", n + 1),
+    )
 }
 
 // A case, and the lines before it that spoil it.

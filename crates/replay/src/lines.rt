@@ -8,6 +8,7 @@ use textform::out;
 use textform::words;
 use textform::words::Span;
 use textform::words::Stop;
+use withlines::wordlist;
 
 pub fn answer_all(input: &[u8]) {
     let mut at = 0;
@@ -60,23 +61,25 @@ fn passed_over(command: &[u8]) -> bool {
 
 // Runs a case, if it can be read and is within the limits. Answers whether it was.
 fn answered(command: &[u8], tag: &[u8], rest: &[u8], with: &[u8]) -> bool {
-    if check::same(command, b"cut") {
-        return cuts::answered(tag, rest, with);
+    let call = wordlist::place_of(command, b"cut merge capture sim filter");
+    match call {
+        0 => cuts::answered(tag, rest, with),
+        1 => merges::answered(tag, rest, with),
+        2 => captures::answered(tag, rest, with),
+        _ => {
+            if withlines::all(with) != 0 {
+                return false;
+            }
+            plain_answered(call, tag, rest)
+        }
     }
-    if check::same(command, b"merge") {
-        return merges::answered(tag, rest, with);
+}
+
+// The same of the calls that no line can spoil.
+fn plain_answered(call: usize, tag: &[u8], rest: &[u8]) -> bool {
+    match call {
+        3 => similar::answered(tag, rest),
+        4 => filters::answered(tag, rest),
+        _ => false,
     }
-    if check::same(command, b"capture") {
-        return captures::answered(tag, rest, with);
-    }
-    if withlines::all(with) != 0 {
-        return false;
-    }
-    if check::same(command, b"sim") {
-        return similar::answered(tag, rest);
-    }
-    if check::same(command, b"filter") {
-        return filters::answered(tag, rest);
-    }
-    false
 }

@@ -78,15 +78,11 @@ fn read_records(
 
 // Whether every line that spoils the call is one that it can have.
 fn all_known(with: &[u8]) -> bool {
-    let flags = withlines::known(with, b"len", b"flags", 1);
-    let first = withlines::known(with, b"len", b"first", 1);
-    let modules = withlines::known(with, b"len", b"dep_module", 1);
-    let nexts = withlines::known(with, b"len", b"dep_next", 1);
-    let n = withlines::known(with, b"count", b"n", 1);
-    let d = withlines::known(with, b"count", b"d", 1);
-    let areas = withlines::known(with, b"areas", b"", 2);
-    let tables = looks::sum(looks::sum(flags, first), looks::sum(modules, nexts));
-    looks::sum(tables, looks::sum(looks::sum(n, d), areas)) == withlines::all(with)
+    withlines::all_listed(
+        with,
+        b"len flags\nlen first\nlen dep_module\nlen dep_next\ncount n\ncount d",
+        withlines::areas(with, 2),
+    )
 }
 
 // A case, and the lines before it that spoil it.

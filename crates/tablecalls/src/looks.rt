@@ -12,10 +12,6 @@ pub fn least(a: usize, b: usize) -> usize
     b
 }
 
-pub fn sum(a: u64, b: u64) -> u64 {
-    std::num::wrapping_add_u64(a, b)
-}
-
 fn warn(tag: &[u8], what: &[u8]) {
     out::begin(b"!", tag);
     out::text(b": ");

@@ -10,7 +10,26 @@ use textform::parts;
 use textform::words;
 ghost use Prim.Native.Nat.{_<_, _≤_};
 
-// The size and the four words of subgroup i. Answers the place past the last word, as each reader here does.
+// One of the words. Answers the place past it, as each reader here does.
+fn read_word(line: &[u8], at: usize, entry: usize, bits: &mut [u64; 16392]) -> usize
+    requires { ⌜ entry < 16392 ⌝ }
+{
+    let word = numbers::hexadecimal(line, at);
+    bits[entry] = word.value;
+    word.at
+}
+
+fn read_words(line: &[u8], at: usize, i: usize, bits: &mut [u64; 16392]) -> usize
+    requires { ⌜ i < 4097 ⌝ }
+{
+    let from = 4 * i;
+    let after_first = read_word(line, at, from, bits);
+    let after_second = read_word(line, after_first, from + 1, bits);
+    let after_third = read_word(line, after_second, from + 2, bits);
+    read_word(line, after_third, from + 3, bits)
+}
+
+// The size and the four words of subgroup i.
 fn read_subgroup(
     line: &[u8],
     at: usize,
@@ -21,17 +40,8 @@ fn read_subgroup(
     requires { ⌜ i < 4097 ⌝ }
 {
     let size = numbers::decimal(line, at);
-    let a = numbers::hexadecimal(line, size.at);
-    let b = numbers::hexadecimal(line, a.at);
-    let c = numbers::hexadecimal(line, b.at);
-    let d = numbers::hexadecimal(line, c.at);
-    let from = 4 * i;
     sizes[i] = size.value;
-    bits[from] = a.value;
-    bits[from + 1] = b.value;
-    bits[from + 2] = c.value;
-    bits[from + 3] = d.value;
-    d.at
+    read_words(line, size.at, i, bits)
 }
 
 fn read_subgroups(
@@ -62,12 +72,11 @@ fn threshold_of(limit: Limit) -> f64 {
 
 // Whether every line that spoils the call is one that it can have.
 fn all_known(with: &[u8]) -> bool {
-    let sizes = withlines::known(with, b"len", b"sizes", 1);
-    let bits = withlines::known(with, b"len", b"bits", 1);
-    let k = withlines::known(with, b"count", b"k", 1);
-    let e = withlines::known(with, b"count", b"e", 1);
-    let areas = withlines::known(with, b"areas", b"", 3);
-    looks::sum(looks::sum(looks::sum(looks::sum(sizes, bits), k), e), areas) == withlines::all(with)
+    withlines::all_listed(
+        with,
+        b"len sizes\nlen bits\ncount k\ncount e",
+        withlines::areas(with, 3),
+    )
 }
 
 // A case, and the lines before it that spoil it.

@@ -1,6 +1,7 @@
 // Lines that spoil a leaf call before it is handed over: `with offsets ..`, `with len TABLE LENGTH`, `with count COUNT VALUE`, `with areas ..`.
 // The text before a call is kept as it stands, and looked through for each value that a line of it may change.
 pub mod lines;
+pub mod wordlist;
 
 use textform::numbers;
 use textform::words;
@@ -101,7 +102,37 @@ pub fn known(with: &[u8], kind: &[u8], name: &[u8], numbers: usize) -> u64 {
     found
 }
 
+// How many lines there are with one number for a kind and a name that stand in a list, a line for each.
+fn listed(with: &[u8], list: &[u8]) -> u64 {
+    let mut found: u64 = 0;
+    let mut at = 0;
+    while at < list.len() {
+        let to = words::find(list, at, Stop::LineEnd);
+        let next = to + 1;
+        let line = words::part(list, Span { from: at, to });
+        found = std::num::wrapping_add_u64(found, known_as(with, line));
+        at = next;
+    }
+    found
+}
+
+fn known_as(with: &[u8], line: &[u8]) -> u64 {
+    let kind = words::word(line, 0);
+    let name = words::word(line, kind.to);
+    known(with, words::part(line, kind), words::part(line, name), 1)
+}
+
 // How many lines spoil the call.
 pub fn all(with: &[u8]) -> u64 {
     known(with, b"", b"", 0)
+}
+
+// Whether every line that spoils the call is one of a list, or one of others, of which there are so many.
+pub fn all_listed(with: &[u8], list: &[u8], others: u64) -> bool {
+    std::num::wrapping_add_u64(listed(with, list), others) == all(with)
+}
+
+// How many lines there are for areas, with so many numbers each.
+pub fn areas(with: &[u8], numbers: usize) -> u64 {
+    known(with, b"areas", b"", numbers)
 }

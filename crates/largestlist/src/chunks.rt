@@ -1,7 +1,5 @@
-// The answer: the number of a refusal, or a line for each chunk: its number, group, name, size, entry bits, first module, last module and how
-// many modules there are.
+// A line for each chunk: its number, group, name, size, entry bits, first module, last module and how many modules there are.
 use crate::looks;
-use chunks::ChunksAnswer;
 use textform::out;
 ghost use Prim.Native.Nat.{_<_, _≤_};
 
@@ -153,8 +151,9 @@ fn least(a: usize, b: usize) -> usize
     b
 }
 
-pub fn show(
-    answer: ChunksAnswer,
+// What is printed of so many chunks: the list, and what the areas show to be wrong.
+pub fn made(
+    count: usize,
     chunk_of: &[u32; 4099],
     next_of: &[u32; 4099],
     first_of: &[u32; 4099],
@@ -164,31 +163,21 @@ pub fn show(
     bits_of: &[u64; 16396],
     scratch: &[u32; 393219],
 ) {
-    match answer {
-        ChunksAnswer::Refused(number) => {
-            out::refused(number);
-            looks::modules(0, chunk_of, next_of);
-            looks::records(0, first_of, group_of, name_of, size_of, bits_of);
-            looks::scratch(0, scratch);
-        }
-        ChunksAnswer::Made(count) => {
-            let made = least(count, 4096);
-            out::blank();
-            out::number(count as u64);
-            out::text(b" chunks\n");
-            chunks(
-                made,
-                chunk_of,
-                next_of,
-                first_of,
-                group_of,
-                name_of,
-                size_of,
-                bits_of,
-            );
-            looks::modules(4096, chunk_of, next_of);
-            looks::records(made, first_of, group_of, name_of, size_of, bits_of);
-            looks::scratch(393216, scratch);
-        }
-    }
+    let made = least(count, 4096);
+    out::blank();
+    out::number(count as u64);
+    out::text(b" chunks\n");
+    chunks(
+        made,
+        chunk_of,
+        next_of,
+        first_of,
+        group_of,
+        name_of,
+        size_of,
+        bits_of,
+    );
+    looks::modules(4096, chunk_of, next_of);
+    looks::records(made, first_of, group_of, name_of, size_of, bits_of);
+    looks::scratch(393216, scratch);
 }

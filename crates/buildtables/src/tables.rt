@@ -1,5 +1,6 @@
 // The tables of a build that was read, handed over as long as is said.
 use buildcalls::Counts;
+use buildcalls::Form;
 use buildcalls::Lent;
 use buildlines::rows;
 use options::Options;
@@ -77,7 +78,9 @@ fn lent_of(areas: &[usize; 8]) -> Lent {
     }
 }
 
+// The rows of tables as arrays of their lengths; from here on they are slices, so that each table is cut off with no more to prove.
 pub fn answer(
+    form: Form,
     tag: &[u8],
     counts: &[usize; 6],
     lengths: &[usize; 20],
@@ -90,17 +93,45 @@ pub fn answer(
     longs: &[u64; 896],
     doubles: &[f64; 640],
 ) {
-    let long = lengths_of(lengths);
-    buildcalls::answer(
+    hand_over(
+        form,
         tag,
         counts_of(counts),
+        lengths_of(lengths),
+        options,
+        rows::bytes(ids, 0, id_bytes),
+        bytes,
+        shorts,
+        longs,
+        doubles,
+        lent_of(areas),
+    );
+}
+
+fn hand_over(
+    form: Form,
+    tag: &[u8],
+    counts: Counts,
+    long: Lengths,
+    options: Options,
+    ids: &[u8],
+    bytes: &[u8],
+    shorts: &[u32],
+    longs: &[u64],
+    doubles: &[f64],
+    lent: Lent,
+) {
+    buildcalls::answer(
+        form,
+        tag,
+        counts,
         rows::bytes(bytes, rows::FLAGS, long.flags),
         rows::longs(longs, rows::SIZES, long.sizes),
         rows::shorts(shorts, rows::ORDERS, long.orders),
         rows::shorts(shorts, rows::SHARES, long.shares),
         rows::longs(longs, rows::TAGS, long.tags),
         rows::longs(longs, rows::BITS, long.bits),
-        rows::bytes(ids, 0, id_bytes),
+        ids,
         rows::shorts(shorts, rows::OFFSETS, long.offsets),
         rows::shorts(shorts, rows::FIRST, long.first),
         rows::shorts(shorts, rows::DEPENDENCY, long.dependency),
@@ -116,6 +147,6 @@ pub fn answer(
         rows::shorts(shorts, rows::PRIORITY, long.priority),
         rows::doubles(doubles, rows::THRESHOLD, long.threshold),
         rows::shorts(shorts, rows::ANSWERS, long.answers),
-        lent_of(areas),
+        lent,
     );
 }

@@ -1,8 +1,8 @@
--- `largestbuilds::show::chunks` is safe and ends. The measure is the number of chunks that are left.
+-- `largestlist::chunks::chunks` is safe and ends. The measure is the number of chunks that are left.
 use Prim.Native.Nat.{_-_}
 use borrow.Author.Needs.{needs}
-use Rattle.largestbuilds.proofs.show.chunks.Statement.{statement}
-use Rattle.largestbuilds.proofs.show.chunks.Tie as tie
+use Rattle.largestlist.proofs.chunks.chunks.Statement.{statement}
+use Rattle.largestlist.proofs.chunks.chunks.Tie as tie
 
 abbrev Inv-loop : tie.InvT-loop
 Inv-loop count chunk-of next-of first-of group-of name-of size-of bits-of i₀ i = Unit {0}

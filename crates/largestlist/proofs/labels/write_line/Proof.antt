@@ -1,8 +1,8 @@
--- `largestbuilds::labels::write_line` is safe and ends. The measure is the number of lines that are passed over yet.
+-- `largestlist::labels::write_line` is safe and ends. The measure is the number of lines that are passed over yet.
 use Prim.Native.Nat.{_-_}
 use borrow.Author.Needs.{needs}
-use Rattle.largestbuilds.proofs.labels.write_line.Statement.{statement}
-use Rattle.largestbuilds.proofs.labels.write_line.Tie as tie
+use Rattle.largestlist.proofs.labels.write_line.Statement.{statement}
+use Rattle.largestlist.proofs.labels.write_line.Tie as tie
 
 abbrev Inv-loop : tie.InvT-loop
 Inv-loop text number from₀ i₀ from i = Unit {0}

@@ -1,8 +1,8 @@
--- `largestbuilds::show::follow` is safe and ends. The measure is the number of steps that are left.
+-- `largestlist::chunks::follow` is safe and ends. The measure is the number of steps that are left.
 use Prim.Native.Nat.{_-_}
 use borrow.Author.Needs.{needs}
-use Rattle.largestbuilds.proofs.show.follow.Statement.{statement}
-use Rattle.largestbuilds.proofs.show.follow.Tie as tie
+use Rattle.largestlist.proofs.chunks.follow.Statement.{statement}
+use Rattle.largestlist.proofs.chunks.follow.Tie as tie
 
 abbrev Inv-loop : tie.InvT-loop
 Inv-loop first held chunk-of next-of walk₀ i₀ walk i = Unit {0}
