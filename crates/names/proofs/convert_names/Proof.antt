@@ -137,8 +137,8 @@ slice-aggregate-copy-bytes c = let s = c .before .before .before .before .before
 
 copy-bytes-requires : tie.Need-copy-bytes-requires Inv-loop μ-loop
 copy-bytes-requires c κs = let s = c .before .before .before .before .before .before .before .before .before .before .before .before .before
-    .before .before .before .before .before .before .before .before .before .before .before .before .before .before .before in zero-bytes (s .args
-    .n) (s .pre .1 .few) ∙ sym (s .pre .1 .modules)
+    .before .before .before .before .before .before .before .before .before .before .before .before .before .before .before in s .pre .1
+    .modules ∙ sym (zero-bytes (s .args .n) (s .pre .1 .few))
 
 can-close-requires : tie.Need-can-close-requires Inv-loop μ-loop
 can-close-requires c κs = search needs
