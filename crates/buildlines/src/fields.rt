@@ -1,6 +1,5 @@
 // Words of a build besides numbers and ids: the letter of a line, and options, which may be absent.
 use filter::MinShareCount;
-use limit::Limit;
 use options::Options;
 use options::Recursion;
 use textform::doubles;

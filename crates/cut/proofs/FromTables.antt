@@ -1,7 +1,7 @@
 -- Cuts that are read off the tables of modules in an order of their own are the definition's.
 use Prim.Native.Nat.{ℕ, _+_, _-_, _≤_, _<_}
-use mathlib.Core.List.{List, [], map}
-use mathlib.Core.Path.{_≡_, refl, sym, ap, ap₂, _∙_}
+use mathlib.Core.List.{List, map}
+use mathlib.Core.Path.{_≡_, sym, ap, ap₂, _∙_}
 use native.Mathlib.Omega.{arith}
 use lib.Ieee.{Float, nan, binary64, sub}
 use lib.ListN.{length, getD, take, drop}

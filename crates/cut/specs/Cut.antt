@@ -1,6 +1,6 @@
 -- Cut (`pick_relevance_split_index`), of lists of ids and sizes.
 use Prim.Native.Nat.{ℕ, _-_}
-use mathlib.Core.Bool.{Bool, true, false, cond}
+use mathlib.Core.Bool.{cond}
 use mathlib.Core.List.{List, [], _∷_, foldl, map}
 use lib.Ieee.{Float}
 use lib.ListN.{length}

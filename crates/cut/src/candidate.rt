@@ -2,7 +2,7 @@
 ghost use mathlib.Core.Path.{_≡_};
 ghost use mathlib.Core.Bool.{cond};
 ghost use lib.Ieee.{lt};
-ghost use Rattle.cut.specs.Candidate.{allowed, oversized, largerSide, beatsBySize, beats};
+ghost use Rattle.cut.specs.Candidate.{oversized, largerSide, beatsBySize, beats};
 
 // A cut at an index: the similarity of the two ids that it parts, and the sizes of its two sides.
 pub struct Candidate {

@@ -24,7 +24,7 @@ use Rattle.settling.specs.Settled.{settled}
 use Rattle.emitting.specs.Emitted.{Work, HasEntry}
 use Rattle.emitting.specs.declared.emit.Head.{Head}
 use Rattle.emitting.proofs.Chunk.{SameLengths, same-lengths, lengths-kept}
-use Rattle.items.specs.Turn.{Tables, untaken, emittedFrom, ItemReady, Listed, Converted}
+use Rattle.items.specs.Turn.{Tables, untaken, emittedFrom, ItemReady, Converted}
 use Rattle.items.specs.declared.convert.Limits.{Limits}
 use Rattle.running.specs.Fits.{ItemFits, HeadOf}
 use Rattle.running.specs.State.{Advance, Begun}
@@ -34,7 +34,7 @@ use Rattle.running.proofs.ItemTurn.{turn-entries, turn-ready, turn-advances}
 use Rattle.sets.specs.Built.{startAt, startsOf}
 use Rattle.sets.specs.Matched.{RunEnd}
 use Rattle.subgroups.specs.Kinds.{kindsIn}
-use Rattle.subgroups.specs.Items.{subgroupsIn, modulesIn, itemNumbered}
+use Rattle.subgroups.specs.Items.{subgroupsIn, itemNumbered}
 use Rattle.subgroups.proofs.Numbered.{at-most}
 use Rattle.subgroups.proofs.RunModules.{order-ascends, position-within, number-below}
 use Rattle.entries_aware.specs.Divided.{DividedReady}

@@ -4,8 +4,7 @@ use mathlib.Core.List.{List}
 use lib.Ieee.{Float}
 use Rattle.limit.specs.declared.Limit.{Limit}
 use Rattle.options.specs.Tables.{GroupTables}
-use Rattle.options.specs.declared.Options.{Options}
-use Rattle.grouping.specs.Given.{Shared, Variant, Given, ModuleAreas, ChunkRecords, Areas}
+use Rattle.grouping.specs.Given.{Shared, Given, Areas}
 
 -- what is handed in and the lent areas
 pub record Handed : Type 0 where

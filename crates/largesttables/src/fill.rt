@@ -1,5 +1,5 @@
 // The tables of the largest build, with room for one module, group and record more.
-ghost use Prim.Native.Nat.{_<_, _≤_};
+ghost use Prim.Native.Nat.{_<_};
 
 fn set_bits(i: usize, bits: &mut [u64; 16388])
     requires { ⌜ i < 4097 ⌝ }

@@ -1,5 +1,4 @@
 -- Keeping the elements that pass a test: over an append, and that what is kept passes.
-use Prim.Native.Nat.{ℕ, zero, suc, _<_}
 use mathlib.Core.Bool.{Bool, true, false}
 use mathlib.Core.List.{List, [], _∷_, _++_}
 use mathlib.Core.Path.{_≡_, refl, ap}

@@ -1,16 +1,16 @@
 -- A number is taken off a list: the places from its own on take over what stands one further, from the last to the first.
 use Prim.Native.Nat.{ℕ, zero, suc, _+_, _-_, _≤_, _<_}
-use mathlib.Core.Bool.{Bool, not}
+use mathlib.Core.Bool.{not}
 use mathlib.Core.List.{List, [], _∷_, _++_, append-assoc, List·Memᴰ}
-use mathlib.Core.Path.{_≡_, refl, sym, ap, ap₂, _∙_}
+use mathlib.Core.Path.{_≡_, refl, sym, ap, _∙_}
 use native.Mathlib.Nat.{not-suc-le-zero, le-of-suc-le-suc}
 use native.Mathlib.Omega.{arith}
 use borrow.Author.Tests.{eq-eqb, ne-eqb}
 use lib.Dec.{eqb}
 use lib.ListN.{length, getD, set, take, drop, length-set, length-append, length-take, length-drop, drop-of-length-le}
-use lib.Seq.{length-take-le, take-suc, drop-cons, set-at, getD-at, take-at, take-all, split-at}
+use lib.Seq.{length-take-le, take-suc, drop-cons, set-at, getD-at, take-at, split-at}
 use Rattle.lists.specs.Keep.{keep, keepHead}
-use Rattle.lists.proofs.Sort.{Pairs, more}
+use Rattle.lists.proofs.Sort.{more}
 use Rattle.lists.proofs.Distinct.{Distinct}
 use Rattle.lists.proofs.KeepTests.{keep-all}
 use Rattle.lists.proofs.Position.{mem-getD, getD-mem}

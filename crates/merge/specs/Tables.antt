@@ -1,6 +1,6 @@
 -- Subgroups in tables: a size and four words of entry bits a row.
 use Prim.Native.Nat.{ℕ, _*_, _≤_, _^_}
-use mathlib.Core.List.{List, [], _∷_, _++_, map, foldr}
+use mathlib.Core.List.{List, [], _++_, map, foldr}
 use mathlib.Core.Option.{Option, none, some}
 use mathlib.Core.Path.{_≡_}
 use lib.Dec.{eqb}

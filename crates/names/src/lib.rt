@@ -10,7 +10,6 @@ use entries_aware::convert_subgroups;
 use index::ChunkIdx;
 use items::convert::Limits;
 use items::convert::convert_item_to_chunks;
-use lists::copy::copy_bytes;
 use lists::fill::clear_bytes;
 use options::Settings;
 use sets::matched::run_end;

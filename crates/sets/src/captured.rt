@@ -5,7 +5,6 @@ use index::ModuleIdx;
 ghost use mathlib.Core.List.{foldl};
 ghost use mathlib.Core.Path.{_≡_};
 ghost use Prim.Native.Nat.{_-_};
-ghost use lib.ListN.{length};
 ghost use Rattle.capture.specs.Followed.{unfollowed};
 ghost use Rattle.capture.specs.Walk.{visited};
 ghost use Rattle.sets.specs.Captured.{StartsReady, AllReady, AllFound};

@@ -1,24 +1,9 @@
 -- What holds of the chunks after any items, for a run that writes chunk records one after another: no chunk is empty, no two share a place,
 -- and each is a part of an item.
 use Prim.Native.Nat.{ℕ, suc, _≤_, _<_}
-use mathlib.Core.List.{
-  List,
-  [],
-  _∷_,
-  _++_,
-  foldl,
-  append-nil,
-  append-assoc,
-  List·Memᴰ,
-  List·Memᴰ·head,
-  List·Memᴰ·tail,
-  List·Memᴰ·not-nil,
-  List·Memᴰ·append-cases,
-  Memᴰ·of-map,
-}
+use mathlib.Core.List.{List, [], _∷_, _++_, foldl, List·Memᴰ, List·Memᴰ·head, List·Memᴰ·tail, List·Memᴰ·not-nil, List·Memᴰ·append-cases, Memᴰ·of-map}
 use mathlib.Core.Logic.{⊎-elim}
 use mathlib.Core.Path.{_≡_, refl, sym, ap, subst}
-use native.Mathlib.Omega.{arith}
 use lib.ListN.{length}
 use Rattle.lists.proofs.Sort.{Pairs, none, pairs-map}
 use Rattle.grouping.specs.Tree.{Tree}

@@ -1,7 +1,7 @@
 -- The order in which a run comes to the items: group by group, in each group name by name.
 use Prim.Native.Nat.{ℕ}
 use mathlib.Core.Bool.{Bool}
-use mathlib.Core.List.{List, [], _∷_, _++_, foldr, foldl}
+use mathlib.Core.List.{List, [], foldl}
 use lib.Dec.{ltb}
 use Rattle.lists.specs.Keep.{keep}
 use Rattle.lists.specs.Range.{range}

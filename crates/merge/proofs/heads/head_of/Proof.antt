@@ -1,7 +1,6 @@
 -- The invariant: `best` stands for the numbers of the block below i. The measure is the numbers left.
-use Prim.Native.Nat.{_*_, _-_, _≤_, _<_}
+use Prim.Native.Nat.{_*_, _-_, _≤_}
 use native.Mathlib.Omega.{arith}
-use lib.ListN.{length}
 use Rattle.merge.proofs.Blocks.{LookedThrough, looked-first, looked-more, looked-all}
 use Rattle.merge.proofs.heads.head_of.Statement.{statement}
 use Rattle.merge.proofs.heads.head_of.Tie as tie

@@ -1,7 +1,7 @@
 -- The invariant: the places from i on have taken over what stood one further, and what stood at i is held. The number stands no further than i, which
 -- is the measure.
-use Prim.Native.Nat.{suc, _-_}
-use mathlib.Core.Path.{_≡_, refl}
+use Prim.Native.Nat.{_-_}
+use mathlib.Core.Path.{refl}
 use native.Mathlib.Omega.{arith}
 use Rattle.lists.proofs.KeepLength.{mem-length}
 use Rattle.merge.proofs.Removing.{Moving, moving-starts, lower, moving-on, moving-ends}

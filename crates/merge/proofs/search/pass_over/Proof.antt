@@ -3,7 +3,7 @@ use Prim.Native.Nat.{_-_, _≤_, _<_}
 use mathlib.Core.Path.{sym, _∙_, subst}
 use native.Mathlib.Omega.{arith}
 use borrow.Author.Tests.{not-false, ltb-true}
-use lib.ListN.{length, getD}
+use lib.ListN.{length}
 use Rattle.bitset.specs.Entries.{differing}
 use Rattle.bitset.proofs.Words.{held}
 use Rattle.merge.specs.Search.{firstOnes, PassedOver}

@@ -1,8 +1,7 @@
 -- `oversized::neighbours::fill_sums` meets its contract. The loop's invariant: the entries below i are filled, and the sum is that of the first i sizes.
-use Prim.Native.Nat.{ℕ, _-_, _≤_, _<_}
+use Prim.Native.Nat.{_-_, _≤_, _<_}
 use mathlib.Core.Path.{_≡_, ap₂, _∙_}
 use native.Mathlib.Omega.{arith}
-use borrow.Author.Needs.{needs}
 use lib.Ieee.{nan, binary64, add}
 use lib.ListN.{length, take, length-set}
 use Rattle.whole.specs.Double.{sumF64}

@@ -1,11 +1,9 @@
 -- `subgroups::kinds::find_kind` meets its contract. The invariant: no kind from `at` on has the bits, and what `at` leads to has their bucket. The
 -- measure is `at`: links fall.
 use Prim.Native.Nat.{ℕ, suc, _-_, _<_}
-use mathlib.Core.Bool.{true, false}
 use mathlib.Core.Path.{_≡_, sym, ap, _∙_, subst}
 use native.Mathlib.Omega.{arith}
 use lib.ListN.{length, getD}
-use Rattle.bitset.specs.Entries.{rowOf}
 use Rattle.grouping.specs.Subgroups.{sameBits}
 use Rattle.subgroups.proofs.Chains.{Searching, bucket-below, search-starts, kind-in, link-falls, search-goes-on, found-here, found-nowhere}
 use Rattle.subgroups.proofs.kinds.find_kind.Statement.{statement}

@@ -1,6 +1,6 @@
 -- The invariant: the first i modules are counted, the kinds are on their chains, and the tables are as long as they were. The measure is the modules
 -- left.
-use Prim.Native.Nat.{_+_, _≤_, _<_, _-_}
+use Prim.Native.Nat.{_≤_, _<_, _-_}
 use mathlib.Core.Path.{_≡_, refl, sym, _∙_, subst₂}
 use native.Mathlib.Omega.{arith}
 use lib.ListN.{length, take, length-set, length-take}

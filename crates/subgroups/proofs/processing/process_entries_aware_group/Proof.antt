@@ -1,7 +1,6 @@
 -- `subgroups::processing::process_entries_aware_group` meets its contract: the stages are run in tables that have room for every set.
-use Prim.Native.Nat.{_*_, _≤_}
+use Prim.Native.Nat.{_≤_}
 use mathlib.Core.Path.{sym}
-use native.Mathlib.Omega.{arith}
 use lib.ListN.{length}
 use lib.Seq.{length-take-le}
 use borrow.Author.Needs.{needs}
