@@ -30,7 +30,12 @@ pub fn run_command(command: &mut Command, input: &[u8]) -> Ran {
     // A program that reads no input may have ended before it is written.
     let _ = child.stdin.take().expect("there is an input").write_all(input);
     let Output { status, stdout, stderr } = child.wait_with_output().expect("the program ends");
-    Ran { answers: text(stdout), messages: text(stderr), status: status.code() }
+    Ran { answers: text(stdout), messages: without_progress(&text(stderr)), status: status.code() }
+}
+
+/// Messages without those that only say that long work goes on, which come by the clock.
+fn without_progress(messages: &str) -> String {
+    messages.split_inclusive('\n').filter(|line| !line.ends_with(" s so far)\n")).collect()
 }
 
 fn text(bytes: Vec<u8>) -> String {
