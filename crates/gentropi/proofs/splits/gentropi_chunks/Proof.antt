@@ -1,8 +1,8 @@
 -- `gentropi::splits::gentropi_chunks` meets its contract: the options are those that the byte says are given, and each arm knows the answer.
 use mathlib.Core.Path.{ap}
 use borrow.Author.Needs.{needs}
-use Rattle.refusal.proofs.Calls.{exported, value-place}
 use Rattle.chunks.specs.Answer.{outcomeOf}
+use Rattle.gentropi.proofs.Options.{chunks-exported}
 use Rattle.gentropi.proofs.splits.gentropi_chunks.Statement.{statement}
 use Rattle.gentropi.proofs.splits.gentropi_chunks.Tie as tie
 
@@ -47,9 +47,7 @@ returns c =
     let d =
     c .before .before .before .before .before .before .before .before .before .before
     .before .before .before .before .before .before .before .before .before in
-    let call = rw (d .before .before .before .before .before .before .before .before .before .options-by .ensures) at (d .split .ensures) in
-    let told = (ap outcomeOf (c .before .answer .given .1)) in
-    record { call = exported told call; place = value-place told call _ }
+    chunks-exported (d .before .before .before .before .before .before .before .before .before .options-by .ensures) (ap outcomeOf (c .before .answer .given .1)) (d .split .ensures)
 
 same-length-9 : tie.Need-same-length-9
 same-length-9 c = search needs
@@ -80,9 +78,7 @@ returns-2 c =
     let d =
     c .before .before .before .before .before .before .before .before .before .before
     .before .before .before .before .before .before .before .before .before in
-    let call = rw (d .before .before .before .before .before .before .before .before .before .options-by .ensures) at (d .split .ensures) in
-    let told = (ap outcomeOf (c .before .answer2 .given .1)) in
-    record { call = exported told call; place = value-place told call _ }
+    chunks-exported (d .before .before .before .before .before .before .before .before .before .options-by .ensures) (ap outcomeOf (c .before .answer2 .given .1)) (d .split .ensures)
 
 pub gentropi-chunks-spec : {M : Type 1} → statement M
 gentropi-chunks-spec =
