@@ -1,6 +1,6 @@
 -- The call Chunks for a host: it is split's, with the options that the byte says are given.
 use Prim.Native.Nat.{ℕ}
-use mathlib.Core.Path.{_≡_, refl}
+use mathlib.Core.Path.{_≡_}
 use Rattle.options.specs.declared.Options.{Options}
 use Rattle.refusal.specs.Outcome.{Outcome, numberOf, valueOr}
 use Rattle.refusal.proofs.Calls.{exported, value-place}

@@ -34,5 +34,6 @@ pub mod Parts
 pub mod Keys
 pub mod Runs
 pub mod Packed
+pub mod SortPacked
 pub mod SortNumbers
 pub mod Blocks

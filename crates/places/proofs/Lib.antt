@@ -1,7 +1,7 @@
 -- Laws of the tables in both orders.
 pub mod Keeping
 pub mod TwoOf
-pub mod Packing
+pub mod SharedKeys
 pub mod SameIds
 pub mod Ranking
 pub mod PutByOrder

@@ -12,13 +12,13 @@ use Rattle.lists.proofs.Pairs.{pairs-at, at-pairs}
 use Rattle.lists.proofs.Position.{mem-getD, getD-mem}
 use Rattle.lists.proofs.Sort.{Rising, lower, mem-sort}
 use Rattle.lists.proofs.SortMap.{sort-same}
+use Rattle.lists.proofs.SortPacked.{pack, pack-apart, packed-sort}
 use Rattle.ids.specs.Parts.{idAt}
 use Rattle.ids.proofs.ByteOrder.{before-irrefl, before-asym}
 use Rattle.sorts.specs.ById.{byId}
 use Rattle.places.specs.AnyTwo.{anyTwo}
 use Rattle.places.specs.ById.{sameId, Ranks}
 use Rattle.places.specs.Ordered.{ranksSorted}
-use Rattle.places.proofs.Packing.{pack, pack-apart, packed-sort}
 use Rattle.places.proofs.SameIds.{in-id-order, untied-rises, ties-share}
 
 module _ (bytes offsets list : List ℕ) {rank₀ rank : List ℕ} (ranks : Ranks (sortBy (byId bytes offsets) list) rank₀ rank) where
@@ -63,9 +63,10 @@ module _ (bytes offsets list : List ℕ) {rank₀ rank : List ℕ} (ranks : Rank
     pub by-rank : (members : List ℕ) → ((m : ℕ) → List·Memᴰ m members → List·Memᴰ m list × (m < 4096))
         → ranksSorted rank members ≡ sortBy (byId bytes offsets) members
     by-rank members within =
-        packed-sort rankOf members (λ m i. within m i .1)
+        packed-sort rankOf members
         (at-pairs {R = λ x y. ltb (pack rankOf y) (pack rankOf x) ≡ lower rankOf y x} members 0
         (λ i j u v. agree (getD members i 0) (getD members j 0) (getD-mem members i 0 (omega arith)) (getD-mem members j 0 v)))
+        (λ m i. within m i .1)
         ∙ sort-same (lower rankOf) (byId bytes offsets) members (λ l m i j. rank-order l m (within l i .0) (within m j .0))
       where
         agree : (x y : ℕ) → List·Memᴰ x members → List·Memᴰ y members → ltb (pack rankOf y) (pack rankOf x) ≡ lower rankOf y x
