@@ -1,6 +1,6 @@
 -- The renumbering rule: builds that are alike but for load numbers get the same chunk list.
 use Prim.Native.Nat.{ℕ, zero, suc, _<_}
-use mathlib.Core.List.{List, List·Memᴰ}
+use mathlib.Core.List.{List·Memᴰ}
 use mathlib.Core.Path.{_≡_}
 use lib.ListN.{getD}
 use Rattle.refusal.specs.Outcome.{accepted}

@@ -3,7 +3,6 @@ use Prim.Native.Nat.{_*_}
 use mathlib.Core.Bool.{Bool, true, false, not, Bool·beq}
 use mathlib.Core.Path.{_≡_, refl, ap}
 use borrow.Author.Tests.{eq-eqb}
-use lib.Dec.{eqb}
 use lib.Ieee.{Float, nan, inf, fin, isNan, ne, eq, up, down}
 
 same-sign : (s : Bool) → Bool·beq s s ≡ true

@@ -1,7 +1,7 @@
 -- Keeping the elements that pass a test: over an append, and that what is kept passes.
 use mathlib.Core.Bool.{Bool, true, false}
 use mathlib.Core.List.{List, [], _∷_, _++_}
-use mathlib.Core.Path.{_≡_, refl, ap}
+use mathlib.Core.Path.{_≡_, refl}
 use Rattle.lists.specs.Keep.{keep, keepHead}
 
 head-append : {A : Type 0} (b : Bool) (x : A) (l m : List A) → keepHead b x (l ++ m) ≡ keepHead b x l ++ m

@@ -5,7 +5,7 @@ use mathlib.Core.Path.{_≡_}
 use native.Mathlib.Nat.{zero-add}
 use native.Mathlib.Omega.{arith}
 use borrow.Author.Needs.{needs}
-use lib.ListN.{length, drop}
+use lib.ListN.{drop}
 use Rattle.similarity.specs.Similarity.{similarity}
 use Rattle.similarity.proofs.SimilarityLaws.{byteScore-le, from-done, from-pair}
 use Rattle.similarity.proofs.similarity_within.Statement.{statement}
