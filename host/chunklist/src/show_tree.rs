@@ -20,11 +20,17 @@ pub fn show_tree(request: &TreeRequest) -> ExitCode {
     match read(&source, request) {
         Ok(build) if request.as_calls => printed(&tree::as_calls(&build), true),
         Ok(build) => answered(&source, &build, request),
-        Err(message) => {
-            say(&format!("{}: {message}", source.name()));
-            ExitCode::FAILURE
-        }
+        Err(message) => without_page(&source, &message, request),
     }
+}
+
+/// Says what is wrong, and that a page which is there already is not of this tree.
+fn without_page(source: &Source, message: &str, request: &TreeRequest) -> ExitCode {
+    say(&format!("{}: {message}", source.name()));
+    if let Some(file) = request.html.as_ref().filter(|file| file.exists()) {
+        say(&format!("{}: no page was written; this one was there before", file.display()));
+    }
+    ExitCode::FAILURE
 }
 
 fn read(source: &Source, request: &TreeRequest) -> Result<TreeBuild, String> {
@@ -45,10 +51,7 @@ fn answered(source: &Source, build: &TreeBuild, request: &TreeRequest) -> ExitCo
     }
     let list = match answer.outcome {
         Ok(list) => list,
-        Err(number) => {
-            say(&format!("{}: {}", source.name(), tree::refused(build, number)));
-            return ExitCode::FAILURE;
-        }
+        Err(number) => return without_page(source, &tree::refused(build, number), request),
     };
     let mut clean = answer.warnings.is_empty();
     if let Some(file) = &request.html {

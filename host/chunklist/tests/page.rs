@@ -33,6 +33,20 @@ fn written(test: &str, arguments: &[&str], input: &str) -> PathBuf {
     page
 }
 
+#[test]
+fn a_page_that_was_there_is_not_taken_for_a_refused_trees() {
+    let page = folder("refused").join("page.html");
+    fs::write(&page, "an earlier page").expect("a file");
+    let name = page.to_str().expect("a path of UTF-8");
+    for input in ["module a 1\nmodule a 1\n", "modul a 1\n"] {
+        let Ran { messages, status, .. } = run(&["--tree", "--html", name], input.as_bytes());
+        let last = format!("chunklist: {name}: no page was written; this one was there before\n");
+        assert!(messages.lines().count() > 1 && messages.ends_with(&last), "{messages}");
+        assert_eq!(status, Some(1));
+    }
+    assert_eq!(fs::read_to_string(&page).expect("the file"), "an earlier page");
+}
+
 /// The text of the element with this id.
 fn element<'a>(dom: &'a str, id: &str) -> &'a str {
     let start = format!(" id=\"{id}\">");
