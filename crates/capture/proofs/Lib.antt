@@ -3,6 +3,7 @@ pub mod Reached
 pub mod State
 pub mod Visit
 pub mod Chains
+pub mod Passing
 pub mod Captured
 pub mod Walking
 pub mod Trail

@@ -11,27 +11,14 @@ use lib.Dec.{eqb}
 use lib.ListN.{length, getD, List·getD-eq-default}
 use Rattle.records.specs.Chain.{dependencies}
 use Rattle.records.proofs.Table.{Good, dependencies-in}
-use Rattle.capture.specs.Reached.{Reached, start, further, Marks}
+use Rattle.capture.specs.Reached.{start, further, Marks}
 use Rattle.capture.specs.Capture.{Eligible, Names}
-use Rattle.capture.specs.Walk.{Walk, markedCount, WalkState, visited}
+use Rattle.capture.specs.Walk.{Walk, markedCount, WalkState, Walked, FromMarked, Walking, visited}
 use Rattle.lists.proofs.Count.{count-le}
-use Rattle.capture.proofs.Reached.{reached-all}
+use Rattle.capture.proofs.Reached.{reached-all, more-starts, marks-of}
 use Rattle.capture.proofs.Visit.{Visited, visit-all}
 
 module _ (flags first dependency next : List ℕ) (n d : ℕ) where
-  -- what is reached from the modules marked before
-  abbrev pub FromMarked : List ℕ → ℕ → Type 0
-  FromMarked before = Reached (Eligible flags) (Names first dependency next d) (λ m. getD before m 0 ≡ 1)
-
-  -- the walk from w₀ with `head` modules taken off the list
-  pub record Walking (w₀ : Walk) (head : ℕ) (w : Walk) : Type 0 where
-    pub state : WalkState flags n w
-    pub head-in : head ≤ w .tail
-    pub started : (m : ℕ) → getD (w₀ .marks) m 0 ≡ 1 → getD (w .marks) m 0 ≡ 1
-    pub sound : (m : ℕ) → getD (w .marks) m 0 ≡ 1 → FromMarked (w₀ .marks) m
-    pub closed : (i : ℕ) → i < head → (k : ℕ) → Names first dependency next d (getD (w .queue) i 0) k → Eligible flags k → getD (w .marks) k 0 ≡ 1
-    pub queue-length : length (w .queue) ≡ length (w₀ .queue)
-
   -- a marked module is one of the n
   marked-in : (w : Walk) → WalkState flags n w → (m : ℕ) → getD (w .marks) m 0 ≡ 1 → m < n
   marked-in w s m e = go (decLt m n)
@@ -40,20 +27,28 @@ module _ (flags first dependency next : List ℕ) (n d : ℕ) where
       go (yes l) = l
       go (no l) = let z = List·getD-eq-default (w .marks) 0 {n = m} (omega (arith, s .mark-bytes)) in omega arith
 
-  -- it starts with nothing taken off
-  pub walk-begins : (w : Walk) → WalkState flags n w → Walking w 0 w
-  walk-begins w s =
+  abbrev On : Walk → ℕ → Walk → Type 0
+  On = Walking flags first dependency next n d
+
+  -- it goes on with some taken off
+  pub walk-resumes : (w : Walk) → WalkState flags n w → (head : ℕ) → head ≤ w .tail
+      → ((i : ℕ) → i < head → (k : ℕ) → Names first dependency next d (getD (w .queue) i 0) k → Eligible flags k → getD (w .marks) k 0 ≡ 1) → On w head w
+  walk-resumes w s head h closed =
       record {
         state = s;
-        head-in = omega arith;
+        head-in = h;
         started = λ m e. e;
         sound = λ m e. start e (s .eligible-ones m (marked-in w s m e) e);
-        closed = λ i l. absurd (not-suc-le-zero l);
+        closed = closed;
         queue-length = refl;
       }
 
+  -- it starts with nothing taken off
+  pub walk-begins : (w : Walk) → WalkState flags n w → On w 0 w
+  walk-begins w s = walk-resumes w s 0 (omega arith) (λ i l. absurd (not-suc-le-zero l))
+
   -- one module more is taken off, and its chain followed
-  module _ (g : Good first dependency next n d) (w₀ : Walk) (head : ℕ) (w : Walk) (p : Walking w₀ head w) (h : head < w .tail) where
+  module _ (g : Good first dependency next n d) (w₀ : Walk) (head : ℕ) (w : Walk) (p : On w₀ head w) (h : head < w .tail) where
     -- a module on the list is one of the n
     pub taken-in : getD (w .queue) head 0 < n
     taken-in = p .state .queued head h .0
@@ -74,9 +69,9 @@ module _ (flags first dependency next : List ℕ) (n d : ℕ) where
             let q : i ≡ head = omega arith in
             after-chain .all k (subst (λ (x : ℕ). Names first dependency next d (getD (w .queue) x 0) k) q named) el
 
-    pub walk-turns : {w′ : Walk} → foldl (visited flags) w (dependencies first dependency next d (getD (w .queue) head 0)) ≡ w′ → Walking w₀ (head + 1) w′
+    pub walk-turns : {w′ : Walk} → foldl (visited flags) w (dependencies first dependency next d (getD (w .queue) head 0)) ≡ w′ → On w₀ (head + 1) w′
     walk-turns e =
-        subst (Walking w₀ (head + 1)) e (
+        subst (On w₀ (head + 1)) e (
         record {
           state = after-chain .state;
           head-in = omega (arith, after-chain .longer);
@@ -87,8 +82,8 @@ module _ (flags first dependency next : List ℕ) (n d : ℕ) where
         })
 
   -- all are taken off
-  module _ (w₀ : Walk) (head : ℕ) (w : Walk) (p : Walking w₀ head w) (h : w .tail ≤ head) where
-    complete : {m : ℕ} → FromMarked (w₀ .marks) m → getD (w .marks) m 0 ≡ 1
+  module _ (w₀ : Walk) (head : ℕ) (w : Walk) (p : On w₀ head w) (h : w .tail ≤ head) where
+    complete : {m : ℕ} → FromMarked flags first dependency next d (w₀ .marks) m → getD (w .marks) m 0 ≡ 1
     complete r = reached-all (λ m. getD (w .marks) m 0 ≡ 1) (p .started) step r
       where
         step : (m k : ℕ) → getD (w .marks) m 0 ≡ 1 → Names first dependency next d m k → Eligible flags k → getD (w .marks) k 0 ≡ 1
@@ -96,8 +91,24 @@ module _ (flags first dependency next : List ℕ) (n d : ℕ) where
             let o = p .state .listed m (marked-in w (p .state) m e) e in
             p .closed (o .0) (lt-of-lt-of-le (o .1) h) k (subst (λ (x : ℕ). Names first dependency next d x k) (sym (o .2)) names) el
 
-    pub walk-ends : Marks (FromMarked (w₀ .marks)) n (w .marks)
-    walk-ends = record { each = λ m l. ⊎-elim (λ e. inl (e, p .sound m e)) (λ e. inr (e, λ r. let z = complete r in omega arith)) (p .state .byte m l) }
+    all-marked : Marks (FromMarked flags first dependency next d (w₀ .marks)) n (w .marks)
+    all-marked = record { each = λ m l. ⊎-elim (λ e. inl (e, p .sound m e)) (λ e. inr (e, λ r. let z = complete r in omega arith)) (p .state .byte m l) }
+
+    pub walk-ends : length (w₀ .marks) ≡ n → Walked flags first dependency next n d (w₀ .marks) w
+    walk-ends same = record { marked = all-marked; state = p .state; same-length = p .state .mark-bytes ∙ sym same }
+
+-- a walk that went on from where a walk on its way had come to ends as one walk
+pub walk-joins : (flags first dependency next : List ℕ) (n d : ℕ) (w₀ : Walk) (head : ℕ) (w after : Walk) → Walking flags first dependency next n d w₀ head w
+    → length (w₀ .marks) ≡ n → Walked flags first dependency next n d (w .marks) after → Walked flags first dependency next n d (w₀ .marks) after
+walk-joins flags first dependency next n d w₀ head w after p same q =
+    record {
+      marked = marks-of (λ m. (
+        λ r. reached-all (FromMarked flags first dependency next d (w₀ .marks)) (p .sound) (λ m k r names el. further r names el) r,
+        λ r. more-starts (p .started) r,
+      )) (q .marked);
+      state = q .state;
+      same-length = q .same-length ∙ p .state .mark-bytes ∙ sym same;
+    }
 
 -- no more modules are on the list than there are
 pub list-within : (flags : List ℕ) (n : ℕ) (w : Walk) → WalkState flags n w → w .tail ≤ n

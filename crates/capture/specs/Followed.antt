@@ -1,5 +1,5 @@
--- The records that a walk has followed, a byte for each: a chain is left where it joins one that was followed before. At the end of a walk the
--- marks are undone along the chains that were followed.
+-- The records that a walk has followed, a byte for each, in the part of it that marks them: a chain is left where it joins one that was followed
+-- before. At the end the marks are undone along the chains that were followed.
 use Prim.Native.Nat.{ℕ, _≤_, _<_}
 use mathlib.Core.Bool.{true}
 use mathlib.Core.List.{List, List·Memᴰ}

@@ -81,3 +81,39 @@ pub record FollowReady (flags first dependency next : List ℕ) (n d : ℕ) (w :
   pub state : WalkState flags n w
   pub module-in : m < n
   pub before : Followed flags dependency next d (w .marks) followed 0
+
+-- ---- its two parts: without marks of followed records, and with them
+
+-- what is reached from the modules marked before
+abbrev pub FromMarked : List ℕ → List ℕ → List ℕ → List ℕ → ℕ → List ℕ → ℕ → Type 0
+FromMarked flags first dependency next d before = Reached (Eligible flags) (Names first dependency next d) (λ m. getD before m 0 ≡ 1)
+
+-- The walk from w₀ with `head` modules taken off the list: what is marked is reached, the starts are marked, and so is every eligible module that
+-- a module taken off names.
+pub record Walking (flags first dependency next : List ℕ) (n d : ℕ) (w₀ : Walk) (head : ℕ) (w : Walk) : Type 0 where
+  pub state : WalkState flags n w
+  pub head-in : head ≤ w .tail
+  pub started : (m : ℕ) → getD (w₀ .marks) m 0 ≡ 1 → getD (w .marks) m 0 ≡ 1
+  pub sound : (m : ℕ) → getD (w .marks) m 0 ≡ 1 → FromMarked flags first dependency next d (w₀ .marks) m
+  pub closed : (i : ℕ) → i < head → (k : ℕ) → Names first dependency next d (getD (w .queue) i 0) k → Eligible flags k → getD (w .marks) k 0 ≡ 1
+  pub queue-length : length (w .queue) ≡ length (w₀ .queue)
+
+-- what the part without marks needs
+pub record PlainReady (flags first dependency next : List ℕ) (n d : ℕ) (w : Walk) : Type 0 where
+  pub tables : WalkTables flags first dependency next n d
+  pub state : WalkState flags n w
+
+-- the chain of module m can be gone along to its end, after no more records than there are
+pub record FollowPlainReady (flags first dependency next : List ℕ) (n d : ℕ) (w : Walk) (gone m : ℕ) : Type 0 where
+  pub tables : WalkTables flags first dependency next n d
+  pub state : WalkState flags n w
+  pub few : gone ≤ d
+  pub module-in : m < n
+
+-- what the part with marks needs: `start` modules are taken off the list, and no record is marked as followed
+pub record MarkedReady (flags first dependency next : List ℕ) (n d start : ℕ) (w : Walk) (followed : List ℕ) : Type 0 where
+  pub tables : WalkTables flags first dependency next n d
+  pub state : WalkState flags n w
+  pub start-in : start ≤ w .tail
+  pub closed : (i : ℕ) → i < start → (k : ℕ) → Names first dependency next d (getD (w .queue) i 0) k → Eligible flags k → getD (w .marks) k 0 ≡ 1
+  pub clear : followed ≡ unfollowed

@@ -1,5 +1,6 @@
 // The capture of a module: what it reaches along its dependencies through eligible modules.
 pub mod forget;
+pub mod plain;
 pub mod walk;
 
 use index::ModuleIdx;

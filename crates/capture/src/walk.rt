@@ -1,5 +1,6 @@
 // The walk along dependencies: a list of modules still to visit, each put on it at most once.
 use crate::forget::forget_all;
+use crate::plain::walk_plain;
 use index::ModuleIdx;
 ghost use mathlib.Core.List.{foldl};
 ghost use mathlib.Core.Path.{_≡_};
@@ -8,7 +9,7 @@ ghost use lib.ListN.{length};
 ghost use Rattle.records.specs.Chain.{chainOf, dependencies};
 ghost use Rattle.lists.specs.Stored.{stored};
 ghost use Rattle.capture.specs.Followed.{unfollowed};
-ghost use Rattle.capture.specs.Walk.{WalkReady, Walked, FollowReady, VisitReady, visited};
+ghost use Rattle.capture.specs.Walk.{WalkReady, MarkedReady, Walked, FollowReady, VisitReady, visited};
 
 // A module that a chain names: it is marked and put on the list if it is eligible and not marked yet.
 pub fn visit(
@@ -66,9 +67,9 @@ fn follow(
     found
 }
 
-// Marks all that is reached from the modules marked so far, which are the first `tail` of the list. Answers how many are on the list then. Zero, which
-// ends a chain, counts as followed.
-pub fn walk(
+// Goes on with a walk whose first `start` modules are taken off the list and their chains followed, with marks of the records that it follows.
+// Zero, which ends a chain, counts as followed. The marks are undone along the chains of the modules that it took off.
+fn walk_marked(
     flags: &[u8],
     first: &[u32],
     dependency: &[u32],
@@ -76,16 +77,17 @@ pub fn walk(
     marks: &mut [u8],
     queue: &mut [u32],
     followed: &mut [u8],
+    start: usize,
     tail: usize,
 ) -> usize
-    requires { ⌜ WalkReady (now flags) (now first) (now dependency) (now next) (length (now flags)) (length (now next) - 1)
-        (record { marks = now marks; queue = now queue; tail = tail }) (now followed) ⌝ }
+    requires { ⌜ MarkedReady (now flags) (now first) (now dependency) (now next) (length (now flags)) (length (now next) - 1)
+        start (record { marks = now marks; queue = now queue; tail = tail }) (now followed) ⌝ }
     ensures { λ r. ⌜ Walked (now (flags .entry)) (now (first .entry)) (now (dependency .entry)) (now (next .entry)) (length (now (flags .entry)))
         (length (now (next .entry)) - 1) (now (marks .entry)) (record { marks = now (marks .exit); queue = now (queue .exit); tail = r }) ⌝ }
     ensures { λ _. ⌜ now (followed .exit) ≡ unfollowed ⌝ }
 {
     let mut found = tail;
-    let mut head = 0;
+    let mut head = start;
     followed[0] = 1;
     while head < found {
         let of = ModuleIdx(queue[head]);
@@ -102,6 +104,41 @@ pub fn walk(
         );
         head = head + 1;
     }
-    forget_all(first, next, &queue[..found], followed);
+    forget_all(first, next, &queue[start..found], followed);
     found
+}
+
+// Marks all that is reached from the modules marked so far, which are the first `tail` of the list. Answers how many are on the list then. Records
+// are marked as followed only once some are known to be shared.
+pub fn walk(
+    flags: &[u8],
+    first: &[u32],
+    dependency: &[u32],
+    next: &[u32],
+    marks: &mut [u8],
+    queue: &mut [u32],
+    followed: &mut [u8],
+    tail: usize,
+) -> usize
+    requires { ⌜ WalkReady (now flags) (now first) (now dependency) (now next) (length (now flags)) (length (now next) - 1)
+        (record { marks = now marks; queue = now queue; tail = tail }) (now followed) ⌝ }
+    ensures { λ r. ⌜ Walked (now (flags .entry)) (now (first .entry)) (now (dependency .entry)) (now (next .entry)) (length (now (flags .entry)))
+        (length (now (next .entry)) - 1) (now (marks .entry)) (record { marks = now (marks .exit); queue = now (queue .exit); tail = r }) ⌝ }
+    ensures { λ _. ⌜ now (followed .exit) ≡ unfollowed ⌝ }
+{
+    let part = walk_plain(flags, first, dependency, next, marks, queue, tail);
+    if part.found <= part.head {
+        return part.found;
+    }
+    walk_marked(
+        flags,
+        first,
+        dependency,
+        next,
+        marks,
+        queue,
+        followed,
+        part.head,
+        part.found,
+    )
 }

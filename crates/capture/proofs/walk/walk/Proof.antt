@@ -1,152 +1,58 @@
--- `capture::walk::walk` meets its contract. The loop's invariant is that of a walk with `head` modules taken off its list, whose chains are followed;
--- the measure is how many of the n modules can still be taken off.
-use Prim.Native.Nat.{_-_, _≤_}
-use mathlib.Core.Path.{sym, _∙_}
-use native.Mathlib.Omega.{arith}
-use lib.ListN.{length}
-use lib.Seq.{length-take-le}
-use Rattle.records.proofs.Table.{Good, good}
-use Rattle.capture.proofs.Walking.{Walking, walk-begins, walk-turns, walk-ends, taken-in, list-within}
-use Rattle.capture.proofs.Trail.{Trail, trail-begins, trail-turns, trail-ends, unfollowed-bytes}
+-- `capture::walk::walk` meets its contract: with all modules taken off the part without marks is the whole walk, else the part with marks goes on
+-- from where it had come to.
+use borrow.Author.Needs.{needs}
+use Rattle.capture.proofs.Walking.{walk-ends, walk-joins}
 use Rattle.capture.proofs.walk.walk.Statement.{statement}
 use Rattle.capture.proofs.walk.walk.Tie as tie
 
-abbrev Inv-loop : tie.InvT-loop
-Inv-loop flags first dependency next marks₀ queue₀ followed₀ tail found₀ head₀ marks queue followed found head =
-    Walking flags first dependency next (length flags) (length next - 1) (record { marks = marks₀; queue = queue₀; tail = found₀ }) head
-    (record { marks = marks; queue = queue; tail = found })
-    × Trail flags first dependency next (length flags) (length next - 1) head (record { marks = marks; queue = queue; tail = found }) followed
+walk-plain-requires : tie.Need-walk-plain-requires
+walk-plain-requires c κs = search needs
 
-abbrev μ-loop : tie.MeasureT-loop
-μ-loop flags first dependency next marks₀ queue₀ followed₀ tail found₀ head₀ marks queue followed found head = length flags - head
+same-length : tie.Need-same-length
+same-length c = search needs
 
-abbrev start : tie.At-loop Inv-loop μ-loop → tie.Start Inv-loop μ-loop
-start l = l .before .before .before .before .before .before .before .before
+same-length-2 : tie.Need-same-length-2
+same-length-2 c = search needs
 
--- the records are those that refusal 7 does not turn away
-tables-good : (s : tie.Start Inv-loop μ-loop) →
-    Good (s .args .first .now) (s .args .dependency .now) (s .args .next .now) (length (s .args .flags .now)) (length (s .args .next .now) - 1)
-tables-good s = good _ _ _ _ _ (s .pre .tables .good)
-
--- the list has room, and holds no more modules than there are
-listed : (l : tie.At-loop Inv-loop μ-loop) → (l .loop .found ≤ length (l .loop .queue)) × (l .loop .found ≤ length (start l .args .flags .now))
-listed l =
-    let s = l .loop .inv .0 .state in
-    let few = list-within (start l .args .flags .now) _ _ s in
-    (omega (arith, s .room, few), few)
-
-slice-write-followed : tie.Need-slice-write-followed Inv-loop μ-loop
-slice-write-followed c = omega (arith, unfollowed-bytes (c .before .before .before .before .before .before .before .pre .clear))
-
-loop-holds : tie.Need-loop-holds Inv-loop μ-loop
-loop-holds c =
-    let s = c .before .before .before .before .before .before .before in
-    let a = s .args in (
-      walk-begins (a .flags .now) (a .first .now) (a .dependency .now) (a .next .now) _ _ _ (s .pre .state),
-      trail-begins (a .flags .now) (a .first .now) (a .dependency .now) (a .next .now) _ _ (s .pre .tables .records .few) _ _ (s .pre .clear),
-    )
-
-mul-t14 : tie.Need-mul-t14 Inv-loop μ-loop
-mul-t14 c = let l = c .before in omega (arith, listed l .0, start l .good)
-
-slice-read-t16 : tie.Need-slice-read-t16 Inv-loop μ-loop
-slice-read-t16 c = omega (arith, listed (c .before .before) .0)
-
-follow-requires : tie.Need-follow-requires Inv-loop μ-loop
-follow-requires c κs =
-    let l = c .before .before .before .before .before in
-    let s = start l in
-    let a = s .args in
-    let p = l .loop .inv in
-    let h = c .before .before .before .before .loop-test .taken in
-    record {
-      tables = s .pre .tables;
-      state = p .0 .state;
-      module-in = taken-in (a .flags .now) (a .first .now) (a .dependency .now) (a .next .now) _ _ (tables-good s) _ _ _ (p .0) h;
-      before = p .1 .marks;
-    }
-
-add-head : tie.Need-add-head Inv-loop μ-loop
-add-head c =
-    let l = c .before .before .before .before .before .before .before .before .before .before .before .before in
-    omega (arith, listed l .0, c .before .before .before .before .before .before .before .before .before .before .before .loop-test .taken, start l .good)
-
-loop-less : tie.Need-loop-less Inv-loop μ-loop
-loop-less c =
-    let l = c .before .before .before .before .before .before .before .before .before .before .before .before in
-    omega (arith, listed l .1, c .before .before .before .before .before .before .before .before .before .before .before .loop-test .taken)
-
-loop-again : tie.Need-loop-again Inv-loop μ-loop
-loop-again c =
-    let l = c .before .before .before .before .before .before .before .before .before .before .before .before in
-    let s = start l in
-    let a = s .args in
-    let p = l .loop .inv in
-    let h = c .before .before .before .before .before .before .before .before .before .before .before .loop-test .taken in
-    let e = c .before .before .before .before .before .before .follow .ensures in (
-      walk-turns (a .flags .now) (a .first .now) (a .dependency .now) (a .next .now) _ _ (tables-good s) _ _ _ (p .0) h (e .0),
-      trail-turns (a .flags .now) (a .first .now) (a .dependency .now) (a .next .now) _ _ (tables-good s) _ _ _ (p .0) h _ (p .1) (e .0) (e .1),
-    )
-
-slice-reshare-prefix-forget-all : tie.Need-slice-reshare-prefix-forget-all Inv-loop μ-loop
-slice-reshare-prefix-forget-all c = listed (c .before) .0
-
-slice-aggregate-forget-all : tie.Need-slice-aggregate-forget-all Inv-loop μ-loop
-slice-aggregate-forget-all c = sym (length-take-le _ _ (listed (c .before .before) .0))
-
-forget-all-requires : tie.Need-forget-all-requires Inv-loop μ-loop
-forget-all-requires c κs =
-    let l = c .before .before .before in
-    let s = start l in
-    let a = s .args in
-    let p = l .loop .inv in
-    let h = c .before .before .loop-test .left in
-    trail-ends (a .flags .now) (a .first .now) (a .dependency .now) (a .next .now) _ _ (s .pre .tables .records) (tables-good s) _ _ _ (p .0) h _ (p .1)
-
-same-length : tie.Need-same-length Inv-loop μ-loop
-same-length c = let l = c .before .before .before .before .before .before in l .loop .inv .0 .state .mark-bytes ∙ sym (start l .pre .state .mark-bytes)
-
-same-length-2 : tie.Need-same-length-2 Inv-loop μ-loop
-same-length-2 c = c .before .before .before .before .before .before .loop .inv .0 .queue-length
-
-same-length-3 : tie.Need-same-length-3 Inv-loop μ-loop
-same-length-3 c =
-    let s = start (c .before .before .before .before .before .before) in
-    unfollowed-bytes (c .before .before .forget-all .ensures) ∙ sym (unfollowed-bytes (s .pre .clear))
-
-returns : tie.Need-returns Inv-loop μ-loop
+returns : tie.Need-returns
 returns c =
-    let l = c .before .before .before .before .before .before in
-    let s = start l in
+    let s = c .before .before .before .before .before .before .before .before .before .before .before .before .before .before .before .before in
     let a = s .args in
-    let p = l .loop .inv .0 in
-    let h = c .before .before .before .before .before .loop-test .left in (
-      record {
-        marked = walk-ends (a .flags .now) (a .first .now) (a .dependency .now) (a .next .now) _ _ _ _ _ p h;
-        state = p .state;
-        same-length = p .state .mark-bytes ∙ sym (s .pre .state .mark-bytes);
-      },
-      c .before .before .forget-all .ensures,
+    let p = c .before .before .before .before .before .before .walk-plain .ensures in (
+      walk-ends (a .flags .now) (a .first .now) (a .dependency .now) (a .next .now) _ _ _ _ _ p (c .if1 .taken) (s .pre .state .mark-bytes),
+      s .pre .clear,
     )
+
+walk-marked-requires : tie.Need-walk-marked-requires
+walk-marked-requires c κs = search needs
+
+same-length-3 : tie.Need-same-length-3
+same-length-3 c = search needs
+
+same-length-4 : tie.Need-same-length-4
+same-length-4 c = search needs
+
+same-length-5 : tie.Need-same-length-5
+same-length-5 c = search needs
+
+returns-2 : tie.Need-returns-2
+returns-2 c =
+    let s = c .before .before .before .before .before .before .before .before .before .before .before .before .before .before .before .before .before .before .before .before .before .before .before .before .before .before in
+    let a = s .args in
+    let p = c .before .before .before .before .before .before .before .before .before .before .before .before .before .before .before .before .walk-plain .ensures in
+    let q = c .before .before .before .before .before .before .walk-marked .ensures in
+    (walk-joins (a .flags .now) (a .first .now) (a .dependency .now) (a .next .now) _ _ _ _ _ _ p (s .pre .state .mark-bytes) (q .0), q .1)
 
 pub walk-spec : {M : Type 1} → statement M
 walk-spec =
     tie.close
     (tie.spec
-    Inv-loop
-    μ-loop
-    slice-write-followed
-    loop-holds
-    mul-t14
-    slice-read-t16
-    follow-requires
-    add-head
-    loop-less
-    loop-again
-    slice-reshare-prefix-forget-all
-    slice-aggregate-forget-all
-    forget-all-requires
+    walk-plain-requires
     same-length
     same-length-2
+    returns
+    walk-marked-requires
     same-length-3
-    returns)
+    same-length-4
+    same-length-5
+    returns-2)
