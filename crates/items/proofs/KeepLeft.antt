@@ -7,7 +7,7 @@ use native.Mathlib.Numerals.{add-one}
 use native.Mathlib.Omega.{arith}
 use lib.Dec.{eqb}
 use lib.ListN.{length, getD, set, take, length-append, length-set}
-use lib.Seq.{take-suc-set, take-all}
+use lib.Seq.{take-suc-set, take-set-le, take-all}
 use Rattle.lists.specs.Keep.{keep}
 use Rattle.lists.proofs.KeepLength.{keep-le}
 use Rattle.lists.proofs.KeepLoop.{keep-take-in, keep-take-out}
@@ -46,14 +46,15 @@ module _ {list chunk-of members₀ members : List ℕ} {count i : ℕ} (k : Pass
         turn = omega arith;
       }
 
-  pub one-passed : i < length list → test (getD list i 0) ≡ false → Passed list chunk-of members₀ members count (i + 1)
+  -- a module that is taken is written past the count, where the next one is
+  pub one-passed : i < length list → test (getD list i 0) ≡ false → Passed list chunk-of members₀ (set members count (getD list i 0)) count (i + 1)
   unfolding untaken
   one-passed h e =
       let same = keep-take-out test list i 0 h e in
       record {
         number = k .number ∙ ap length (sym same);
-        written = k .written ∙ sym same;
-        long = k .long;
+        written = take-set-le count members count (getD list i 0) (omega arith) ∙ k .written ∙ sym same;
+        long = length-set members count (getD list i 0) ∙ k .long;
         few = omega (arith, k .few);
         turn = omega arith;
       }

@@ -1,5 +1,6 @@
 -- An item that is emitted whole: there is room for its chunk, and it is the only one. Which of the two ways an item goes by its maximum.
 use Prim.Native.Nat.{ℕ, _+_, _^_, _≤_, _<_}
+use mathlib.Core.Bool.{Bool}
 use mathlib.Core.List.{List, [], _∷_}
 use mathlib.Core.Path.{_≡_, sym, ap, _∙_, subst}
 use native.Mathlib.Nat.{add-zero}
@@ -39,6 +40,13 @@ module _ (t : Tables) (modules : List ℕ) {total : Float} (total-is : total ≡
       → emittedWithin maximum t head minimum modules ≡ emittedOver over t head minimum modules
   emitted-by maximum head minimum e =
       ap (λ (l : Limit). emittedOver l t head minimum modules) (sym (ap (overLimit maximum) total-is) ∙ e)
+
+-- a head that is made anew of what it has
+abbrev pub anewHead : Head → Bool → Head
+anewHead head aware = record { group = head .group; name = head .name; «entries_aware» = aware; bits = head .bits }
+
+pub same-head : (head : Head) {aware : Bool} → head .«entries_aware» ≡ aware → anewHead head aware ≡ head
+same-head head e = ap (anewHead head) (sym e)
 
 -- chunks that are the same
 pub same-converted : {es fs : List Emission} {bits : List ℕ} {number at count : ℕ} {before after : Work} → fs ≡ es

@@ -9,7 +9,7 @@ use limit::Limit;
 use oversized::order::in_id_order;
 ghost use mathlib.Core.Path.{_≡_};
 ghost use lib.ListN.{length};
-ghost use Rattle.items.specs.Turn.{untaken, overLimit, emittedWithin, emittedFrom, Listed, ItemReady, Totalled, Converted};
+ghost use Rattle.items.specs.Turn.{untaken, inPieces, overLimit, emittedWithin, emittedFrom, Listed, ItemReady, Totalled, Converted};
 
 // The two limits in force for the size of a chunk.
 pub struct Limits {
@@ -28,6 +28,79 @@ fn over_limit(maximum: Limit, size: f64) -> Limit
         return Limit::Given(limit);
     }
     Limit::Absent
+}
+
+// Puts modules above the maximum in id order, and emits them in pieces.
+fn emit_over_maximum(
+    head: Head,
+    total: f64,
+    minimum: f64,
+    maximum: f64,
+    sizes: &[u64],
+    bits: &[u64],
+    bytes: &[u8],
+    offsets: &[u32],
+    rank: &[u32],
+    number: ChunkIdx,
+    at: usize,
+    members: &mut [u32],
+    chunk_of: &mut [u32],
+    group_of: &mut [u32],
+    name_of: &mut [u32],
+    size_of: &mut [f64],
+    bits_of: &mut [u64],
+) -> usize
+    requires { ⌜ ItemReady (record {
+      bytes = now bytes;
+      offsets = now offsets;
+      sizes = now sizes;
+      rank = now rank;
+    }) (now bits) (now members) (record {
+      chunk-of = now «chunk_of»;
+      group-of = now «group_of»;
+      name-of = now «name_of»;
+      size-of = now «size_of»;
+      bits-of = now «bits_of»;
+    }) (number .0) at ⌝ }
+    requires { ⌜ Totalled (now sizes) (now members) total ⌝ }
+    ensures { λ r. ⌜ Converted (inPieces (record {
+      bytes = now (bytes .entry);
+      offsets = now (offsets .entry);
+      sizes = now (sizes .entry);
+      rank = now (rank .entry);
+    }) head minimum maximum (now (members .entry))) (now (bits .entry)) (number .0) at r (record {
+      chunk-of = now («chunk_of» .entry);
+      group-of = now («group_of» .entry);
+      name-of = now («name_of» .entry);
+      size-of = now («size_of» .entry);
+      bits-of = now («bits_of» .entry);
+    }) (record {
+      chunk-of = now («chunk_of» .exit);
+      group-of = now («group_of» .exit);
+      name-of = now («name_of» .exit);
+      size-of = now («size_of» .exit);
+      bits-of = now («bits_of» .exit);
+    }) ⌝ }
+{
+    in_id_order(rank, members);
+    emit_oversized(
+        head,
+        total,
+        minimum,
+        maximum,
+        sizes,
+        bits,
+        bytes,
+        offsets,
+        members,
+        number,
+        at,
+        chunk_of,
+        group_of,
+        name_of,
+        size_of,
+        bits_of,
+    )
 }
 
 // Emits modules that are not below the minimum: whole within the maximum, else in pieces.
@@ -100,9 +173,44 @@ fn emit_item(
         );
         return 1;
     };
-    in_id_order(rank, members);
-    emit_oversized(
-        head,
+    // There are two calls, each with a head of its kind, so that the compiler gives the tables of an item that is cut a frame of their own: an item
+    // that is emitted whole does not pay for them.
+    let own = head.bits;
+    if head.entries_aware {
+        let aware = Head {
+            group: head.group,
+            name: head.name,
+            entries_aware: true,
+            bits: own,
+        };
+        return emit_over_maximum(
+            aware,
+            total,
+            minimum,
+            maximum,
+            sizes,
+            bits,
+            bytes,
+            offsets,
+            rank,
+            number,
+            at,
+            members,
+            chunk_of,
+            group_of,
+            name_of,
+            size_of,
+            bits_of,
+        );
+    }
+    let plain = Head {
+        group: head.group,
+        name: head.name,
+        entries_aware: false,
+        bits: own,
+    };
+    emit_over_maximum(
+        plain,
         total,
         minimum,
         maximum,
@@ -110,9 +218,10 @@ fn emit_item(
         bits,
         bytes,
         offsets,
-        members,
+        rank,
         number,
         at,
+        members,
         chunk_of,
         group_of,
         name_of,

@@ -1,10 +1,13 @@
 -- `items::convert::emit_item` meets its contract: by its maximum an item is emitted whole or in pieces.
-use mathlib.Core.Path.{_≡_, sym, _∙_}
+use mathlib.Core.Bool.{Bool}
+use mathlib.Core.List.{List}
+use mathlib.Core.Path.{_≡_, sym, ap, _∙_}
 use borrow.Author.Needs.{needs}
 use Rattle.limit.specs.declared.Limit.{Limit}
-use Rattle.items.specs.Turn.{Tables, emittedOver, emittedWithin}
-use Rattle.items.proofs.InPieces.{order-ready, order-chunks}
-use Rattle.items.proofs.Within.{whole-room, whole-number, whole-converted, emitted-by, same-converted}
+use Rattle.emitting.specs.Emitted.{Emission}
+use Rattle.emitting.specs.declared.emit.Head.{Head}
+use Rattle.items.specs.Turn.{Tables, inPieces, emittedOver, emittedWithin}
+use Rattle.items.proofs.Within.{whole-room, whole-number, whole-converted, emitted-by, anewHead, same-head, same-converted}
 use Rattle.items.proofs.convert.emit_item.Statement.{statement}
 use Rattle.items.proofs.convert.emit_item.Tie as tie
 
@@ -23,6 +26,19 @@ by c e =
     let s = start c in
     let a = s .args in
     emitted-by (tables s) (a .members .now) (s .pre .1 .whole) (a .limits .maximum) (a .head) (a .limits .minimum) (sym (c .over-limit .ensures) ∙ e)
+
+-- ---- and once it is above it: its pieces, under its head made anew
+
+abbrev item : tie.After-over → tie.Start
+item c = start (c .before .before)
+
+abbrev pieces : tie.After-over → Head → List Emission
+pieces c head = inPieces (tables (item c)) head (item c .args .limits .minimum) (c .over .given .0 .0) (item c .args .members .now)
+
+anew : (c : tie.After-over) {aware : Bool} → item c .args .head .«entries_aware» ≡ aware
+    → emittedWithin (item c .args .limits .maximum) (tables (item c)) (item c .args .head) (item c .args .limits .minimum) (item c .args .members .now)
+    ≡ pieces c (anewHead (item c .args .head) aware)
+anew c e = by (c .before .before) (c .over .given .1) ∙ sym (ap (pieces c) (same-head (item c .args .head) e))
 
 over-limit-requires : tie.Need-over-limit-requires
 over-limit-requires c κs = search needs
@@ -65,14 +81,8 @@ returns c =
     let s = start compared in
     whole-converted (tables s) (s .args .members .now) (s .pre .1 .whole) (by compared (told .enum-told .given .1)) (emitted .emit-chunk .ensures)
 
-in-id-order-requires : tie.Need-in-id-order-requires
-in-id-order-requires c κs = search needs
-
-emit-oversized-requires : tie.Need-emit-oversized-requires
-emit-oversized-requires c κs =
-    let ordered = c .before .before .before .before .before .before .before .before in
-    let s = start (ordered .before .before .before .before .before) in
-    order-ready (s .pre .0) (s .pre .1 .some) (ordered .in-id-order .ensures) (s .pre .1 .whole)
+emit-over-maximum-requires : tie.Need-emit-over-maximum-requires
+emit-over-maximum-requires c κs = start (c .before .before .before .before .before .before .before .before .before .before .before) .pre
 
 same-length-7 : tie.Need-same-length-7
 same-length-7 c = search needs
@@ -94,15 +104,36 @@ same-length-12 c = search needs
 
 returns-2 : tie.Need-returns-2
 returns-2 c =
-    let called = c .before .before .before .before .before .before .before .before .before .before in
-    let ordered = called .before .before .before .before .before .before .before .before .before in
-    let over = ordered .before .before .before in
-    let compared = over .before .before in
-    let s = start compared in
-    let a = s .args in
-    let e = ordered .in-id-order .ensures in
-    let chunks = by compared (over .over .given .1) ∙ order-chunks (s .pre .0) (s .pre .1 .some) e (a .head) (a .limits .minimum) (over .over .given .0 .0) in
-    same-converted chunks (called .emit-oversized .ensures)
+    let called = c .before .before .before .before .before .before .before .before .before .before .before .before in
+    let tested = called .before .before .before .before .before .before .before in
+    same-converted (anew (tested .before .before .before) (tested .if1 .taken)) (called .emit-over-maximum .ensures)
+
+emit-over-maximum-requires-2 : tie.Need-emit-over-maximum-requires-2
+emit-over-maximum-requires-2 c κs = start (c .before .before .before .before .before .before .before .before .before .before .before) .pre
+
+same-length-13 : tie.Need-same-length-13
+same-length-13 c = search needs
+
+same-length-14 : tie.Need-same-length-14
+same-length-14 c = search needs
+
+same-length-15 : tie.Need-same-length-15
+same-length-15 c = search needs
+
+same-length-16 : tie.Need-same-length-16
+same-length-16 c = search needs
+
+same-length-17 : tie.Need-same-length-17
+same-length-17 c = search needs
+
+same-length-18 : tie.Need-same-length-18
+same-length-18 c = search needs
+
+returns-3 : tie.Need-returns-3
+returns-3 c =
+    let called = c .before .before .before .before .before .before .before .before .before .before .before .before in
+    let tested = called .before .before .before .before .before .before .before in
+    same-converted (anew (tested .before .before .before) (tested .if1 .left)) (called .emit-over-maximum2 .ensures)
 
 pub emit-item-spec : {M : Type 1} → statement M
 emit-item-spec =
@@ -119,12 +150,19 @@ emit-item-spec =
     same-length-5
     same-length-6
     returns
-    in-id-order-requires
-    emit-oversized-requires
+    emit-over-maximum-requires
     same-length-7
     same-length-8
     same-length-9
     same-length-10
     same-length-11
     same-length-12
-    returns-2)
+    returns-2
+    emit-over-maximum-requires-2
+    same-length-13
+    same-length-14
+    same-length-15
+    same-length-16
+    same-length-17
+    same-length-18
+    returns-3)

@@ -25,6 +25,12 @@ mul-m c = omega arith
 shared-slice-read-m : tie.Need-shared-slice-read-m Inv-loop μ-loop
 shared-slice-read-m c = omega arith
 
+mul-members : tie.Need-mul-members Inv-loop μ-loop
+mul-members c = omega arith
+
+slice-write-members : tie.Need-slice-write-members Inv-loop μ-loop
+slice-write-members c = omega arith
+
 cast-if1 : tie.Need-cast-if1 Inv-loop μ-loop
 cast-if1 c = omega (arith, c .shared-slice-known .given (c .before .before .loop .i))
 
@@ -35,12 +41,6 @@ mul-if1 c =
 
 shared-slice-read-if1 : tie.Need-shared-slice-read-if1 Inv-loop μ-loop
 shared-slice-read-if1 c = c .before .before .before .before .pre .numbered (c .before .before .before .loop .i) (c .before .before .loop-test .taken)
-
-mul-members : tie.Need-mul-members Inv-loop μ-loop
-mul-members c = omega arith
-
-slice-write-members : tie.Need-slice-write-members Inv-loop μ-loop
-slice-write-members c = omega arith
 
 add-count : tie.Need-add-count Inv-loop μ-loop
 add-count c = omega arith
@@ -58,10 +58,8 @@ loop-again c =
     let a = tested .before .before .args in
     let m = getD (a .list .now) (l .i) 0 in
     ⊎-elim
-    (λ w. subst₂ (λ (ms : List ℕ) (n : ℕ). Passed (a .list .now) (a .chunk-of .now) (a .members .now) ms n (l .i + 1)) (sym (w .1)) (sym (w .2))
-    (one-kept (l .inv) (tested .loop-test .taken) (omega arith) (eq-eqb (getD (a .chunk-of .now) m 0) 0 (w .0 .taken))))
-    (λ w. subst₂ (λ (ms : List ℕ) (n : ℕ). Passed (a .list .now) (a .chunk-of .now) (a .members .now) ms n (l .i + 1)) (sym (w .1)) (sym (w .2))
-    (one-passed (l .inv) (tested .loop-test .taken) (ne-eqb (getD (a .chunk-of .now) m 0) 0 (w .0 .left))))
+    (λ w. rw (w .1) (one-kept (l .inv) (tested .loop-test .taken) (omega arith) (eq-eqb (getD (a .chunk-of .now) m 0) 0 (w .0 .taken))))
+    (λ w. rw (w .1) (one-passed (l .inv) (tested .loop-test .taken) (ne-eqb (getD (a .chunk-of .now) m 0) 0 (w .0 .left))))
     (c .if1 .came)
 
 same-length : tie.Need-same-length Inv-loop μ-loop
@@ -79,11 +77,11 @@ keep-left-spec =
     loop-holds
     mul-m
     shared-slice-read-m
+    mul-members
+    slice-write-members
     cast-if1
     mul-if1
     shared-slice-read-if1
-    mul-members
-    slice-write-members
     add-count
     add-i
     loop-less
