@@ -2,10 +2,11 @@
 use Prim.Native.Nat.{ℕ, _+_, _≤_, _<_}
 use mathlib.Core.List.{List, [], _∷_, _++_, map, map-append}
 use mathlib.Core.Path.{_≡_, refl, sym, ap, _∙_, subst, subst₂}
+use native.Mathlib.Nat.{le-refl}
 use native.Mathlib.Numerals.{add-one}
 use native.Mathlib.Omega.{arith}
 use lib.ListN.{length, getD, take, set, length-set}
-use lib.Seq.{take-suc, take-all}
+use lib.Seq.{take-suc, take-all, take-set-le}
 use Rattle.lists.specs.Area.{Holds}
 use Rattle.lists.proofs.Front.{holds-more}
 
@@ -36,6 +37,16 @@ module _ {list : List ℕ} {i count : ℕ} {area₀ area : List ℕ} (w : Writin
   -- one of them
   pub none-more : {same : List ℕ} → same ≡ list → Writing same (i + 1) count area₀ area
   none-more e = none-until (omega arith) e
+
+  -- one is stored behind those that are written, and does not count
+  pub none-stored : {same : List ℕ} (x : ℕ) → same ≡ list → Writing same (i + 1) count area₀ (set area count x)
+  none-stored x e =
+      let s = none-more e in
+      record {
+        holds = record { number = s .holds .number; entries = take-set-le count area count x (le-refl count) ∙ s .holds .entries };
+        few = s .few;
+        same-length = simp length-set (s .same-length);
+      }
 
   pub has-room : i < length area₀ → count < length area
   has-room h = omega (arith, w .few, w .same-length)
