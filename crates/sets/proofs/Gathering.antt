@@ -1,6 +1,6 @@
 -- The loop that gathers a group's modules: what one place more adds.
 use Prim.Native.Nat.{ℕ, _+_, _≤_}
-use mathlib.Core.Bool.{Bool, true, false}
+use mathlib.Core.Bool.{Bool, true, false, and-true}
 use mathlib.Core.List.{List, [], _∷_, _++_, map}
 use mathlib.Core.Path.{_≡_, refl, sym, ap, _∙_}
 use borrow.Author.Tests.{leb-true}
@@ -11,7 +11,10 @@ use Rattle.lists.specs.Packed.{packed}
 use Rattle.lists.specs.Range.{range}
 use Rattle.lists.proofs.Below.{both}
 use Rattle.lists.proofs.KeepLoop.{keep-range-in, keep-range-out}
-use Rattle.sets.specs.Matched.{Matching, takes, takesModule, nameOf, keyAt, takingPart, keysOf}
+use Rattle.lists.proofs.KeepTests.{keep-same}
+use Rattle.filter.specs.Filter.{asksNothing, noFilter}
+use Rattle.filter.proofs.FilterLaws.{all-pass}
+use Rattle.sets.specs.Matched.{Matching, takes, takesModule, nameOf, keyAt, takingPart, keysOf, namedOnly}
 use Rattle.sets.proofs.Writing.{map-snoc}
 
 -- those of the first i places
@@ -45,3 +48,21 @@ module _ (g : Matching) (order : List ℕ) (i : ℕ) where
   pub keys-all : i ≡ length order → keysBelow g order i ≡ keysOf g order
   unfolding keysBelow keysOf takingPart
   keys-all e = ap (λ (n : ℕ). map (keyAt g order) (keep (λ p. takesModule g (getD order p 0)) (range 0 n))) e
+
+-- ---- a group that asks nothing more of a module than a name
+
+-- a name is enough to take part
+pub takes-by-name : (g : Matching) (m : ℕ) → asksNothing (g .filter) ≡ true → takesModule g m ≡ leb 2 (getD (g .answers) m 0)
+unfolding takesModule takes
+takes-by-name g m e = rw (all-pass (g .filter) e (getD (g .tags) m 0) (getD (g .sizes) m 0) (getD (g .shares) m 0)) (and-true _)
+
+pub nothing-asked : asksNothing noFilter ≡ true
+unfolding asksNothing
+nothing-asked = refl
+
+-- so what else the group reads changes nothing
+pub named-keys : (g : Matching) (order : List ℕ) → asksNothing (g .filter) ≡ true → keysOf (namedOnly (g .answers)) order ≡ keysOf g order
+unfolding keysOf takingPart keyAt
+named-keys g order e =
+    ap (map (keyAt g order))
+    (keep-same _ _ (range 0 (length order)) (λ i m. takes-by-name (namedOnly (g .answers)) (getD order i 0) nothing-asked ∙ sym (takes-by-name g (getD order i 0) e)))
