@@ -6,17 +6,18 @@ ghost use Rattle.grouping.specs.Given.{Given};
 ghost use Rattle.grouping.specs.Conditions.{badAnswer};
 ghost use Rattle.conditions.specs.HandsIn.{HandsAnswers};
 
-// The answers of all groups for all modules, and the count of names.
+// The answers of all groups for all modules, and the count of names. All are looked at, also behind one that is refused: so several are compared at
+// once.
 pub fn bad_answer(answers: &[u32], k: usize) -> bool
     requires { ⌜ k ≤ nameLimit ⌝ }
     ensures { λ r. ⌜ ((b : Given) → HandsAnswers b (now (answers .entry)) k → r ≡ badAnswer b) ⌝ }
 {
+    let limit = k as u32 + 2;
+    let mut bad = false;
     let mut i = 0;
     while i < answers.len() {
-        if k + 2 <= answers[i] as usize {
-            return true;
-        }
+        bad = (limit <= answers[i]) | bad;
         i = i + 1;
     }
-    false
+    bad
 }

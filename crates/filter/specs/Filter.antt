@@ -1,12 +1,14 @@
 -- Filter (`passes_static_filters`).
 use Prim.Native.Nat.{ℕ}
-use mathlib.Core.Bool.{Bool, true, _&&_, _||_}
+use mathlib.Core.Bool.{Bool, true, false, _&&_, _||_}
 use mathlib.Core.List.{List, [], _∷_}
-use lib.Dec.{leb}
+use lib.Dec.{leb, eqb}
 use Rattle.refusal.specs.Outcome.{Outcome, refused, accepted, Test, test, outcome}
 use Rattle.whole.specs.Double.{toF64}
 use Rattle.whole.specs.Total.{totalExceeds}
 use Rattle.limit.specs.Limits.{isNanLimit, atLeast, atMost}
+use Rattle.limit.specs.declared.Limit.{Limit}
+use Rattle.limit.specs.declared.Limit.the-variants as limit
 use Rattle.bitset.specs.Word.{contains}
 use Rattle.filter.specs.declared.MinShareCount.{MinShareCount}
 use Rattle.filter.specs.declared.MinShareCount.the-variants.{Absent, Given}
@@ -26,6 +28,22 @@ passes f tags size shares =
     contains tags (f .tags)
     && (atLeast (f .«min_module_size») (toF64 size)
     && (atMost (f .«max_module_size») (toF64 size) && sharedEnough (f .«min_share_count») shares))
+
+-- neither limit nor minimum is given
+abbrev pub noLimit : Limit → Bool
+noLimit limit.Absent = true
+noLimit (limit.Given x) = false
+
+abbrev pub noMinimum : MinShareCount → Bool
+noMinimum Absent = true
+noMinimum (Given minimum) = false
+
+-- a filter without tags, limits and minimum, which every module passes
+unfoldable pub asksNothing : StaticFilter → Bool
+asksNothing f = ((eqb (f .tags) 0 && noLimit (f .«min_module_size»)) && noLimit (f .«max_module_size»)) && noMinimum (f .«min_share_count»)
+
+abbrev pub noFilter : StaticFilter
+noFilter = record { tags = 0; «min_module_size» = limit.Absent; «max_module_size» = limit.Absent; «min_share_count» = Absent }
 
 -- the conditions that Filter tests, in its order
 unfoldable pub filterTests : StaticFilter → ℕ → List Test

@@ -2,7 +2,7 @@
 use limit::Limit;
 ghost use mathlib.Core.Path.{_≡_};
 ghost use Prim.Native.Nat.{_≤_, _^_};
-ghost use Rattle.filter.specs.Filter.{sharedEnough, passes, filterCall, outcomeOf};
+ghost use Rattle.filter.specs.Filter.{sharedEnough, passes, noLimit, noMinimum, asksNothing, filterCall, outcomeOf};
 
 // The least share count that is asked for, if one is.
 pub enum MinShareCount {
@@ -32,6 +32,37 @@ impl MinShareCount {
             MinShareCount::Given(minimum) => minimum <= count,
         }
     }
+
+    fn is_absent(self) -> bool
+        ensures { λ r. ⌜ r ≡ noMinimum self ⌝ }
+    {
+        match self {
+            MinShareCount::Absent => true,
+            MinShareCount::Given(_) => false,
+        }
+    }
+}
+
+fn no_limit(limit: Limit) -> bool
+    ensures { λ r. ⌜ r ≡ noLimit limit ⌝ }
+{
+    match limit {
+        Limit::Absent => true,
+        Limit::Given(_) => false,
+    }
+}
+
+// Whether a filter asks nothing, so that every module passes and none has to be looked at.
+pub fn asks_nothing(filter: StaticFilter) -> bool
+    ensures { λ r. ⌜ r ≡ asksNothing filter ⌝ }
+{
+    let min_module_size = filter.min_module_size;
+    let max_module_size = filter.max_module_size;
+    let min_share_count = filter.min_share_count;
+    (filter.tags == 0)
+        & no_limit(min_module_size)
+        & no_limit(max_module_size)
+        & min_share_count.is_absent()
 }
 
 // Whether a module of at most 2^53 bytes passes.

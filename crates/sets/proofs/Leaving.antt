@@ -2,14 +2,14 @@
 use Prim.Native.Nat.{ℕ, _+_, _≤_, _<_}
 use mathlib.Core.List.{List, _++_}
 use mathlib.Core.Path.{_≡_, refl, sym, ap, _∙_, subst}
-use native.Mathlib.Nat.{add-zero, le-refl}
+use native.Mathlib.Nat.{add-zero}
 use native.Mathlib.Omega.{arith}
-use lib.ListN.{length, getD, take, drop, set, length-set, length-take}
-use lib.Seq.{take-append-le, drop-drop, drop-set-lt, take-set-le, getD-drop}
+use lib.ListN.{length, getD, take, drop, set, length-take}
+use lib.Seq.{take-append-le, drop-drop, drop-set-lt, getD-drop}
 use Rattle.lists.specs.Area.{Holds}
 use Rattle.sets.specs.Gathered.{markedIn}
 use Rattle.sets.proofs.Marking.{marked-none, marked-in, marked-out, marked-all}
-use Rattle.sets.proofs.Writing.{Writing, none-written, one-written, none-more}
+use Rattle.sets.proofs.Writing.{Writing, none-written, one-written, none-stored}
 
 -- with the first i of the list looked at
 pub record Leaving (marks list₀ : List ℕ) (i count : ℕ) (list : List ℕ) : Type 0 where
@@ -50,18 +50,8 @@ module _ {marks list₀ : List ℕ} {i count : ℕ} {list : List ℕ} (s : Leavi
 
     pub one-gone : (getD marks m 0 ≡ 1 → ⊥) → Leaving marks list₀ (i + 1) count (set list count m)
     one-gone n =
-        let w = none-more (s .written) (marked-out marks list₀ i h (λ e. n (subst (λ (k : ℕ). getD marks k 0 ≡ 1) (sym same-at) e))) in
         record {
-          written =
-              record {
-                holds =
-                    record {
-                      number = w .holds .number;
-                      entries = take-set-le count list count m (le-refl count) ∙ w .holds .entries;
-                    };
-                few = w .few;
-                same-length = simp length-set (w .same-length);
-              };
+          written = none-stored (s .written) m (marked-out marks list₀ i h (λ e. n (subst (λ (k : ℕ). getD marks k 0 ≡ 1) (sym same-at) e)));
           rest = stored-rest;
         }
 

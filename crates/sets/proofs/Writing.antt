@@ -1,11 +1,12 @@
 -- Loops that write from the front of an area on: a list that grows by one element a turn or stays, and an area that is written whole.
 use Prim.Native.Nat.{ℕ, _+_, _≤_, _<_}
 use mathlib.Core.List.{List, [], _∷_, _++_, map, map-append}
-use mathlib.Core.Path.{_≡_, refl, sym, ap, _∙_, subst, subst₂}
+use mathlib.Core.Path.{_≡_, refl, sym, ap, _∙_, subst}
+use native.Mathlib.Nat.{le-refl}
 use native.Mathlib.Numerals.{add-one}
 use native.Mathlib.Omega.{arith}
 use lib.ListN.{length, getD, take, set, length-set}
-use lib.Seq.{take-suc, take-all}
+use lib.Seq.{take-suc, take-all, take-set-le}
 use Rattle.lists.specs.Area.{Holds}
 use Rattle.lists.proofs.Front.{holds-more}
 
@@ -33,17 +34,18 @@ module _ {list : List ℕ} {i count : ℕ} {area₀ area : List ℕ} (w : Writin
   none-until h e =
       record { holds = subst (λ (l : List ℕ). Holds l count area) (sym e) (w .holds); few = omega (arith, w .few); same-length = w .same-length }
 
-  -- one of them
-  pub none-more : {same : List ℕ} → same ≡ list → Writing same (i + 1) count area₀ area
-  none-more e = none-until (omega arith) e
+  -- one is stored behind those that are written, and does not count
+  pub none-stored : {same : List ℕ} (x : ℕ) → same ≡ list → Writing same (i + 1) count area₀ (set area count x)
+  none-stored {same} x e =
+      let s : Writing same (i + 1) count area₀ area = none-until (omega arith) e in
+      record {
+        holds = record { number = s .holds .number; entries = take-set-le count area count x (le-refl count) ∙ s .holds .entries };
+        few = s .few;
+        same-length = simp length-set (s .same-length);
+      }
 
   pub has-room : i < length area₀ → count < length area
   has-room h = omega (arith, w .few, w .same-length)
-
--- two ways through a turn, which meet with other names for the count and the area
-pub one-of : {more : List ℕ} {i k count : ℕ} {area₀ area′ area : List ℕ} → area ≡ area′ → count ≡ k → Writing more i k area₀ area′
-    → Writing more i count area₀ area
-one-of {more} {i} {area₀ = area₀} a n w = subst₂ (λ (n : ℕ) (l : List ℕ). Writing more i n area₀ l) (sym n) (sym a) w
 
 -- an element more of an image
 pub map-snoc : {A B : Type 0} (f : A → B) (l : List A) (x : A) → map f (l ++ (x ∷ [])) ≡ map f l ++ (f x ∷ [])

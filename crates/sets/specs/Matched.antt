@@ -1,7 +1,7 @@
 -- "Each eligible module that matches, passes the filter and has a name": those of one group, by name.
 use Prim.Native.Nat.{ℕ, _-_, _≤_, _<_, _^_}
 use mathlib.Core.Bool.{Bool, _&&_}
-use mathlib.Core.List.{List, map}
+use mathlib.Core.List.{List, [], map}
 use mathlib.Core.Logic.{_≢_}
 use mathlib.Core.Path.{_≡_}
 use lib.Dec.{leb}
@@ -9,7 +9,7 @@ use lib.ListN.{length, getD}
 use Rattle.lists.specs.Keep.{keep}
 use Rattle.lists.specs.Packed.{packed, keyOf}
 use Rattle.lists.specs.Range.{range}
-use Rattle.filter.specs.Filter.{passes}
+use Rattle.filter.specs.Filter.{passes, noFilter}
 use Rattle.filter.specs.declared.StaticFilter.{StaticFilter}
 
 -- what a group reads: its filter, its answer for each module, and the modules' tags, sizes and share counts
@@ -48,6 +48,10 @@ unfoldable pub keysOf : Matching → List ℕ → List ℕ
 unfolding keyAt takingPart
 keysOf g order = map (keyAt g order) (takingPart g order)
 
+-- a group that asks nothing more of a module than a name
+abbrev pub namedOnly : List ℕ → Matching
+namedOnly answers = record { filter = noFilter; answers = answers; tags = []; sizes = []; shares = [] }
+
 -- the module at a place can be asked for
 pub record Readable (g : Matching) (m : ℕ) : Type 0 where
   pub answered : m < length (g .answers)
@@ -63,7 +67,13 @@ pub record Matchable (g : Matching) (order area : List ℕ) : Type 0 where
   pub readable : (i : ℕ) → i < length order → Readable g (getD order i 0)
   pub room : length order ≤ length area
 
--- the same with room in each of three areas, of which two are for the sort
+-- each module of the order has an answer, and there is room for all of them
+pub record Nameable (answers order area : List ℕ) : Type 0 where
+  pub few : length order ≤ 4096
+  pub answered : (i : ℕ) → i < length order → getD order i 0 < length answers
+  pub room : length order ≤ length area
+
+-- the modules of the order can be asked for, and there is room in each of three areas, of which two are for the sort
 pub record GroupMatchable (g : Matching) (order keys spare matched : List ℕ) : Type 0 where
   pub matchable : Matchable g order keys
   pub spare-room : length order ≤ length spare

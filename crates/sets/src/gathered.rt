@@ -45,8 +45,8 @@ fn gather_marked(order: &[u32], marks: &[u8], blocks: &[u8], set: &mut [u32]) ->
             continue;
         }
         let m = order[i];
+        set[count] = m;
         if marks[m as usize] == 1 {
-            set[count] = m;
             count = count + 1;
         }
         i = i + 1;

@@ -1,47 +1,42 @@
--- `conditions::answers::bad_answer` meets its contract. The loop's invariant: no answer passed is K+2 or more.
-use Prim.Native.Nat.{ℕ, _+_, _-_, _≤_, _<_}
-use mathlib.Core.Path.{_≡_, sym}
-use mathlib.Core.Bool.{false}
-use native.Mathlib.Nat.{not-suc-le-zero}
+-- `conditions::answers::bad_answer` meets its contract. The loop's invariant: whether some answer passed is K+2 or more.
+use Prim.Native.Nat.{ℕ, _+_, _-_, _≤_}
+use mathlib.Core.Bool.{Bool}
+use mathlib.Core.List.{List}
+use mathlib.Core.Path.{_≡_, refl, ap, _∙_}
+use native.Mathlib.Numerals.{add-one}
 use native.Mathlib.Omega.{arith}
-use borrow.Author.Tests.{le-leb, lt-leb}
-use borrow.Author.Count.{below-more}
 use lib.ListN.{length, getD}
 use lib.Dec.{leb}
+use Rattle.lists.specs.Below.{anyBelow}
 use Rattle.grouping.specs.Conditions.{badAnswer}
-use Rattle.lists.proofs.Below.{any-none, any-some}
 use Rattle.conditions.proofs.answers.bad_answer.Statement.{statement}
 use Rattle.conditions.proofs.answers.bad_answer.Tie as tie
 
+-- answer j is refused
+abbrev above : ℕ → List ℕ → ℕ → Bool
+above k answers j = leb (k + 2) (getD answers j 0)
+
 abbrev Inv-loop : tie.InvT-loop
-Inv-loop answers k i₀ i = (i ≤ length answers) × ((j : ℕ) → j < i → leb (k + 2) (getD answers j 0) ≡ false)
+Inv-loop answers k limit bad₀ i₀ bad i = (i ≤ length answers) × (bad ≡ anyBelow (above k answers) i)
 
 abbrev μ-loop : tie.MeasureT-loop
-μ-loop answers k i₀ i = length answers - i
+μ-loop answers k limit bad₀ i₀ bad i = length answers - i
+
+cast-limit : tie.Need-cast-limit Inv-loop μ-loop
+cast-limit c = omega arith
+
+add-limit : tie.Need-add-limit Inv-loop μ-loop
+add-limit c = omega arith
 
 loop-holds : tie.Need-loop-holds Inv-loop μ-loop
-loop-holds c = (omega arith, λ k h. absurd (not-suc-le-zero h))
+unfolding anyBelow
+loop-holds c = (omega arith, refl)
 
-add-if1 : tie.Need-add-if1 Inv-loop μ-loop
-add-if1 c = omega arith
+mul-bad : tie.Need-mul-bad Inv-loop μ-loop
+mul-bad c = omega arith
 
-mul-if1 : tie.Need-mul-if1 Inv-loop μ-loop
-mul-if1 c = omega arith
-
-shared-slice-read-if1 : tie.Need-shared-slice-read-if1 Inv-loop μ-loop
-shared-slice-read-if1 c = omega arith
-
-cast-if1 : tie.Need-cast-if1 Inv-loop μ-loop
-cast-if1 c = omega (arith, c .shared-slice-known .given (c .before .before .loop .i))
-
-returns : tie.Need-returns Inv-loop μ-loop
-unfolding badAnswer
-returns c =
-    let s = c .before .before .before .before .args in
-    let i = c .before .before .before .loop .i in
-    λ b h. rw (h .name-count, h .all-answers, h .answer-count)
-    (sym (any-some (λ j. leb (s .k + 2) (getD (s .answers .now) j 0)) (length (s .answers .now)) i (omega arith) (le-leb (s .k + 2) (getD
-    (s .answers .now) i 0) (c .if1 .taken))))
+shared-slice-read-bad : tie.Need-shared-slice-read-bad Inv-loop μ-loop
+shared-slice-read-bad c = omega arith
 
 add-i : tie.Need-add-i Inv-loop μ-loop
 add-i c = omega arith
@@ -50,20 +45,18 @@ loop-less : tie.Need-loop-less Inv-loop μ-loop
 loop-less c = omega arith
 
 loop-again : tie.Need-loop-again Inv-loop μ-loop
+unfolding anyBelow
 loop-again c =
-    let s = c .before .before .before .before .args in
-    let l = c .before .before .before .loop in (
-      omega arith,
-      below-more (λ j. leb (s .k + 2) (getD (s .answers .now) j 0) ≡ false) (l .i) (l .inv .1) (lt-leb (s .k + 2) (getD (s .answers .now)
-          (l .i) 0) (c .if1 .left)),
-    )
+    let l = c .before .before .loop in
+    (omega arith, rw (l .inv .1, add-one (l .i)))
 
-returns-2 : tie.Need-returns-2 Inv-loop μ-loop
+returns : tie.Need-returns Inv-loop μ-loop
 unfolding badAnswer
-returns-2 c =
+returns c =
     let s = c .before .before .args in
-    λ b h. rw (h .name-count, h .all-answers, h .answer-count)
-    (sym (any-none (λ j. leb (s .k + 2) (getD (s .answers .now) j 0)) (length (s .answers .now)) (λ j l. c .before .loop .inv .1 j (omega arith))))
+    let l = c .before .loop in
+    let e : l .i ≡ length (s .answers .now) = omega arith in
+    λ b h. rw (h .name-count, h .all-answers, h .answer-count) (l .inv .1 ∙ ap (anyBelow (above (s .k) (s .answers .now))) e)
 
 pub bad-answer-spec : {M : Type 1} → statement M
 bad-answer-spec =
@@ -71,13 +64,12 @@ bad-answer-spec =
     (tie.spec
     Inv-loop
     μ-loop
+    cast-limit
+    add-limit
     loop-holds
-    add-if1
-    mul-if1
-    shared-slice-read-if1
-    cast-if1
-    returns
+    mul-bad
+    shared-slice-read-bad
     add-i
     loop-less
     loop-again
-    returns-2)
+    returns)

@@ -7,7 +7,7 @@ use mir.Facts.{fits-32-64}
 use lib.ListN.{length, getD, take}
 use Rattle.sets.specs.Gathered.{markedIn}
 use Rattle.sets.proofs.Marking.{marked-none, marked-in, marked-out, marked-all, marked-block}
-use Rattle.sets.proofs.Writing.{Writing, none-written, one-written, none-more, none-until, one-of}
+use Rattle.sets.proofs.Writing.{Writing, none-written, one-written, none-stored, none-until}
 use Rattle.sets.proofs.gathered.gather_marked.Statement.{statement}
 use Rattle.sets.proofs.gathered.gather_marked.Tie as tie
 
@@ -50,6 +50,12 @@ mul-m c = omega arith
 shared-slice-read-m : tie.Need-shared-slice-read-m Inv-loop μ-loop
 shared-slice-read-m c = omega arith
 
+mul-set : tie.Need-mul-set Inv-loop μ-loop
+mul-set c = omega arith
+
+slice-write-set : tie.Need-slice-write-set Inv-loop μ-loop
+slice-write-set c = omega arith
+
 cast-if2 : tie.Need-cast-if2 Inv-loop μ-loop
 cast-if2 c = fits-32-64 (c .shared-slice-known2 .given _)
 
@@ -57,12 +63,6 @@ shared-slice-read-if2 : tie.Need-shared-slice-read-if2 Inv-loop μ-loop
 shared-slice-read-if2 c =
     let s = c .before .before .before .before .before .before in
     s .pre .has-mark (c .before .before .before .before .before .loop .i) (c .before .before .before .before .loop-test .taken)
-
-mul-set : tie.Need-mul-set Inv-loop μ-loop
-mul-set c = omega arith
-
-slice-write-set : tie.Need-slice-write-set Inv-loop μ-loop
-slice-write-set c = omega arith
 
 add-count : tie.Need-add-count Inv-loop μ-loop
 add-count c = omega arith
@@ -82,8 +82,8 @@ loop-again-2 c =
     let o = s .args .order .now in
     let m = s .args .marks .now in
     ⊎-elim
-    (λ t. one-of (t .1) (t .2) (one-written (l .inv) (getD o (l .i) 0) (marked-in m o (l .i) h (t .0 .taken)) r))
-    (λ t. one-of (t .1) (t .2) (none-more (l .inv) (marked-out m o (l .i) h (t .0 .left))))
+    (λ t. rw (t .1) (one-written (l .inv) (getD o (l .i) 0) (marked-in m o (l .i) h (t .0 .taken)) r))
+    (λ t. rw (t .1) (none-stored (l .inv) (getD o (l .i) 0) (marked-out m o (l .i) h (t .0 .left))))
     (c .if2 .came)
 
 same-length : tie.Need-same-length Inv-loop μ-loop
@@ -109,10 +109,10 @@ gather-marked-spec =
     loop-again
     mul-m
     shared-slice-read-m
-    cast-if2
-    shared-slice-read-if2
     mul-set
     slice-write-set
+    cast-if2
+    shared-slice-read-if2
     add-count
     add-i-2
     loop-less-2

@@ -1,12 +1,12 @@
 -- `sets::matched::gather_matched` meets its contract: one place more a turn, if its module takes part.
-use Prim.Native.Nat.{ℕ, _-_, _≤_, _<_}
+use Prim.Native.Nat.{_-_, _≤_, _<_}
 use mathlib.Core.Logic.{⊎-elim}
 use mathlib.Core.Path.{_≡_, sym, _∙_}
 use native.Mathlib.Omega.{arith}
 use lib.ListN.{length, getD}
-use Rattle.sets.specs.Matched.{Matching, Readable, takesModule, keyAt}
-use Rattle.sets.proofs.Gathering.{keysBelow, takes-named, keys-none, keys-in, keys-out, keys-all}
-use Rattle.sets.proofs.Writing.{Writing, none-written, one-written, none-more, has-room, one-of}
+use Rattle.sets.specs.Matched.{Matching, Readable, takesModule}
+use Rattle.sets.proofs.Gathering.{keysBelow, keys-none, keys-in, keys-out, keys-all}
+use Rattle.sets.proofs.Writing.{Writing, none-written, one-written, none-stored, has-room}
 use Rattle.sets.proofs.matched.gather_matched.Statement.{statement}
 use Rattle.sets.proofs.matched.gather_matched.Tie as tie
 
@@ -50,6 +50,12 @@ start c = c .before .before .before .before .before .before .before .before .bef
 readable : (c : Asking) → Readable (given (start c)) (getD (start c .args .order .now) (c .before .before .loop .i) 0)
 readable c = start c .pre .readable (c .before .before .loop .i) (omega arith)
 
+-- no more are written than were passed
+room : (c : Asking) →
+    let l = c .before .before .loop in
+    l .count < length (l .keys)
+room c = has-room (c .before .before .loop .inv .1) (omega (arith, start c .pre .room))
+
 cast-m : tie.Need-cast-m Inv-loop μ-loop
 cast-m c = omega (arith, readable c .answered)
 
@@ -59,68 +65,49 @@ mul-answer c = omega (arith, readable c .answered)
 shared-slice-read-answer : tie.Need-shared-slice-read-answer Inv-loop μ-loop
 shared-slice-read-answer c = readable (c .before) .answered
 
+key-of-requires : tie.Need-key-of-requires Inv-loop μ-loop
+key-of-requires c κs = omega (arith, start (c .before) .pre .few)
+
+mul-keys : tie.Need-mul-keys Inv-loop μ-loop
+mul-keys c = omega (arith, room (c .before .before))
+
+slice-write-keys : tie.Need-slice-write-keys Inv-loop μ-loop
+slice-write-keys c = room (c .before .before)
+
 mul-takes-part : tie.Need-mul-takes-part Inv-loop μ-loop
-mul-takes-part c = omega (arith, readable (c .before) .tagged)
+mul-takes-part c = omega (arith, readable (c .before .before) .tagged)
 
 shared-slice-read-takes-part : tie.Need-shared-slice-read-takes-part Inv-loop μ-loop
-shared-slice-read-takes-part c = readable (c .before .before) .tagged
+shared-slice-read-takes-part c = readable (c .before .before .before) .tagged
 
 mul-takes-part-2 : tie.Need-mul-takes-part-2 Inv-loop μ-loop
-mul-takes-part-2 c = omega (arith, readable (c .before .before) .sized)
+mul-takes-part-2 c = omega (arith, readable (c .before .before .before) .sized)
 
 shared-slice-read-takes-part-2 : tie.Need-shared-slice-read-takes-part-2 Inv-loop μ-loop
-shared-slice-read-takes-part-2 c = readable (c .before .before .before) .sized
+shared-slice-read-takes-part-2 c = readable (c .before .before .before .before) .sized
 
 mul-takes-part-3 : tie.Need-mul-takes-part-3 Inv-loop μ-loop
-mul-takes-part-3 c = omega (arith, readable (c .before .before .before) .shared)
+mul-takes-part-3 c = omega (arith, readable (c .before .before .before .before) .shared)
 
 shared-slice-read-takes-part-3 : tie.Need-shared-slice-read-takes-part-3 Inv-loop μ-loop
-shared-slice-read-takes-part-3 c = readable (c .before .before .before .before) .shared
+shared-slice-read-takes-part-3 c = readable (c .before .before .before .before .before) .shared
 
 takes-part-requires : tie.Need-takes-part-requires Inv-loop μ-loop
-takes-part-requires c κs = readable (c .before .before .before .before) .whole
+takes-part-requires c κs = readable (c .before .before .before .before .before) .whole
 
 -- ---- the module was asked for
 
-abbrev entry : tie.After-takes-part Inv-loop μ-loop → tie.Start Inv-loop μ-loop
-entry c = c .before .before .before .before .before .before .before .before .before .before .before .before .before .before
+abbrev turn : tie.After-takes-part Inv-loop μ-loop → Asking
+turn c = c .before .before .before .before .before .before
 
-abbrev module-at : tie.After-takes-part Inv-loop μ-loop → ℕ
-module-at c = getD (entry c .args .order .now) (c .before .before .before .before .before .before .before .loop .i) 0
-
-asked : (c : tie.After-takes-part Inv-loop μ-loop) → c .takes-part .result ≡ takesModule (given (entry c)) (module-at c)
+asked : (c : tie.After-takes-part Inv-loop μ-loop) →
+    let a = turn c in
+    c .takes-part .result ≡ takesModule (given (start a)) (getD (start a .args .order .now) (a .before .before .loop .i) 0)
 unfolding takesModule
 asked c = c .takes-part .ensures
 
-has-name : (c : tie.Then1 Inv-loop μ-loop) → 2 ≤ getD (entry (c .before) .args .answers .now) (module-at (c .before)) 0
-has-name c = takes-named (given (entry (c .before))) (module-at (c .before)) (sym (asked (c .before)) ∙ c .if1 .taken)
-
--- no more are written than were passed
-room : (c : tie.Then1 Inv-loop μ-loop) →
-    let l = c .before .before .before .before .before .before .before .before .loop in
-    l .count < length (l .keys)
-room c = has-room (c .before .before .before .before .before .before .before .before .loop .inv .1) (omega (arith, entry (c .before) .pre .room))
-
-sub-keys : tie.Need-sub-keys Inv-loop μ-loop
-sub-keys c = has-name c
-
-cast-keys : tie.Need-cast-keys Inv-loop μ-loop
-cast-keys c = omega (arith, readable (c .before .before .before .before .before .before) .name)
-
-mul-keys : tie.Need-mul-keys Inv-loop μ-loop
-mul-keys c = omega (arith, readable (c .before .before .before .before .before .before) .name)
-
-add-keys : tie.Need-add-keys Inv-loop μ-loop
-add-keys c = omega (arith, readable (c .before .before .before .before .before .before) .name)
-
-mul-keys-2 : tie.Need-mul-keys-2 Inv-loop μ-loop
-mul-keys-2 c = omega (arith, room c)
-
-slice-write-keys : tie.Need-slice-write-keys Inv-loop μ-loop
-slice-write-keys c = room c
-
 add-count : tie.Need-add-count Inv-loop μ-loop
-add-count c = omega (arith, room c)
+add-count c = omega (arith, room (turn (c .before)))
 
 add-i : tie.Need-add-i Inv-loop μ-loop
 add-i c = omega arith
@@ -129,18 +116,19 @@ loop-less : tie.Need-loop-less Inv-loop μ-loop
 loop-less c = omega arith
 
 loop-again : tie.Need-loop-again Inv-loop μ-loop
-unfolding keyAt
 loop-again c =
-    let s = entry (c .before) in
-    let l = c .before .before .before .before .before .before .before .before .loop in
+    let a = turn (c .before) in
+    let s = start a in
+    let l = a .before .before .loop in
     let g = given s in
     let o = s .args .order .now in
+    let k = c .before .before .before .before .before .key-of in
     let r : l .i < length (s .args .keys .now) = omega (arith, s .pre .room) in
     let q = sym (asked (c .before)) in (
       omega arith,
       ⊎-elim
-          (λ t. one-of (t .1) (t .2) (one-written (l .inv .1) (keyAt g o (l .i)) (keys-in g o (l .i) (q ∙ t .0 .taken)) r))
-          (λ t. one-of (t .1) (t .2) (none-more (l .inv .1) (keys-out g o (l .i) (q ∙ t .0 .left))))
+          (λ t. rw (t .1) (one-written (l .inv .1) (k .result) (keys-in g o (l .i) (k .result) (k .ensures) (q ∙ t .0 .taken)) r))
+          (λ t. rw (t .1) (none-stored (l .inv .1) (k .result) (keys-out g o (l .i) (q ∙ t .0 .left))))
           (c .if1 .came),
     )
 
@@ -166,6 +154,9 @@ gather-matched-spec =
     cast-m
     mul-answer
     shared-slice-read-answer
+    key-of-requires
+    mul-keys
+    slice-write-keys
     mul-takes-part
     shared-slice-read-takes-part
     mul-takes-part-2
@@ -173,12 +164,6 @@ gather-matched-spec =
     mul-takes-part-3
     shared-slice-read-takes-part-3
     takes-part-requires
-    sub-keys
-    cast-keys
-    mul-keys
-    add-keys
-    mul-keys-2
-    slice-write-keys
     add-count
     add-i
     loop-less
