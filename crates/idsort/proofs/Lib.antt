@@ -4,7 +4,6 @@ pub mod Prefixes
 pub mod SameBytes
 pub mod Refining
 pub mod Packing
-pub mod SortRuns
 pub mod Sharing
 pub mod ByBlocks
 pub mod Filling
