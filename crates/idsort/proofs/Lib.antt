@@ -3,7 +3,6 @@ pub mod Bytes
 pub mod Prefixes
 pub mod SameBytes
 pub mod Refining
-pub mod SortRuns
 pub mod Sharing
 pub mod ByBlocks
 pub mod Filling

@@ -19,3 +19,5 @@ pub mod Passes
 pub mod FindingParts
 pub mod PartOrder
 pub mod LayingParts
+pub mod SortRuns
+pub mod RunByRun

@@ -4,3 +4,4 @@ mod insertion;
 pub mod numbers;
 mod parts;
 mod radix;
+mod runs;
