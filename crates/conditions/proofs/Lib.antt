@@ -2,7 +2,6 @@
 pub mod CountsLeft
 pub mod JoinedTests
 pub mod KeptSums
-pub mod Marks
 pub mod MetNames
 pub mod PairCount
 pub mod RowCount

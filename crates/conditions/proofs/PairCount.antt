@@ -1,5 +1,5 @@
 -- The names of all rows, counted over clear bytes, are the (group, name) pairs of each build that hands the answers in.
-use Prim.Native.Nat.{ℕ, zero, suc, _+_, _*_, _≤_, _<_}
+use Prim.Native.Nat.{ℕ, zero, suc, _+_, _*_, _-_, _≤_, _<_}
 use mathlib.Core.List.{List, map}
 use mathlib.Core.Path.{_≡_, refl, sym, ap, _∙_, subst}
 use native.Mathlib.Nat.{zero-add}
@@ -58,21 +58,23 @@ module _ (answers : List ℕ) (n g k : ℕ) where
   unfolding pairs
   build-pairs b h = rw (h .module-count, h .group-count, h .name-count, h .all-answers)
 
-  pub clear-rows : (size : ℕ) → k ≤ size → AnswersWithin answers n g k → RowsReady answers (take k (zeros size)) n g
+  pub clear-rows : (size : ℕ) → k + 2 ≤ size → AnswersWithin answers n g k → RowsReady answers (take (k + 2) (zeros size)) n g
   clear-rows size h a =
       record {
+        unnamed = omega (arith, clear-length (k + 2) size h);
         whole = a .whole;
         modules = a .modules;
         groups = a .groups;
-        named = λ j below. omega (arith, a .named j below, clear-length k size h);
-        clear = clear-byte k size;
+        within = λ j below. omega (arith, a .named j below, clear-length (k + 2) size h);
+        clear = clear-byte (k + 2) size;
       }
 
-  pub pairs-counted : (size count : ℕ) → k ≤ size → length answers ≡ g * n → RowsCounted answers (length (take k (zeros size))) n g count
+  pub pairs-counted : (size count : ℕ) → k + 2 ≤ size → length answers ≡ g * n → RowsCounted answers (length (take (k + 2) (zeros size)) - 2) n g count
       → PairsCounted answers n g k count
   pairs-counted size count h e r =
+      let names : length (take (k + 2) (zeros size)) - 2 ≡ k = omega (arith, clear-length (k + 2) size h) in
       record {
         counted = λ b hands.
-            r .counted ∙ ap (λ (x : ℕ). namesOfRows answers x n g) (clear-length k size h) ∙ all-names e ∙ build-pairs b hands;
+            r .counted ∙ ap (λ (x : ℕ). namesOfRows answers x n g) names ∙ all-names e ∙ build-pairs b hands;
         few = r .few;
       }

@@ -29,14 +29,14 @@ sum-more f i =
 module _ (answers : List ℕ) (k n : ℕ) where
   -- the rows of the first i groups are counted
   pub record Rows (i : ℕ) (seen : List ℕ) (count : ℕ) : Type 0 where
-    pub same-length : length seen ≡ k
-    pub within : (name : ℕ) → getD seen name 0 ≤ i
+    pub same-length : length seen ≡ 2 + k
+    pub within : (answer : ℕ) → getD seen answer 0 ≤ i
     pub counted : count ≡ namesOfRows answers k n i
     pub few : count ≤ i * n
 
-  pub rows-begin : (seen : List ℕ) → length seen ≡ k → ((name : ℕ) → getD seen name 0 ≡ 0) → Rows 0 seen 0
+  pub rows-begin : (seen : List ℕ) → length seen ≡ 2 + k → ((answer : ℕ) → getD seen answer 0 ≡ 0) → Rows 0 seen 0
   unfolding namesOfRows range sum
-  rows-begin seen e clear = record { same-length = e; within = λ name. omega (arith, clear name); counted = refl; few = omega arith }
+  rows-begin seen e clear = record { same-length = e; within = λ answer. omega (arith, clear answer); counted = refl; few = omega arith }
 
   -- row i stands within the answers
   pub row-in : (i g : ℕ) → i < g → length answers ≡ g * n → i * n + n ≤ length answers
@@ -59,21 +59,23 @@ module _ (answers : List ℕ) (k n : ℕ) where
       → Rows i seen count → RowReady (rowAt answers n i) seen (i + 1)
   row-ready i g seen count h e named s =
       record {
-        named = λ m below.
+        unnamed = omega (arith, s .same-length);
+        within = λ m below.
             let low : m < n = omega (arith, length-row i g h e) in
             omega (arith, named (i * n + m) (omega (arith, row-in i g h e)), getD-row i m low, s .same-length);
-        unmarked = λ name. omega (arith, s .within name);
+        unmarked = λ answer. omega (arith, s .within answer);
       }
 
   pub rows-turn : (i g : ℕ) (seen after : List ℕ) (count more : ℕ) → i < g → length answers ≡ g * n → Rows i seen count
       → RowCounted (rowAt answers n i) seen after (i + 1) more → Rows (i + 1) after (count + more)
   unfolding namesOfRows
   rows-turn i g seen after count more h e s r =
+      let names : length seen - 2 ≡ k = omega (arith, s .same-length) in
       record {
         same-length = r .same-length ∙ s .same-length;
         within = r .within;
         counted =
-            ap₂ _+_ (s .counted) (r .counted ∙ ap (namesIn (rowAt answers n i)) (s .same-length))
+            ap₂ _+_ (s .counted) (r .counted ∙ ap (namesIn (rowAt answers n i)) names)
             ∙ sym (sum-more (λ j. namesIn (rowAt answers n j) k) i)
             ∙ ap (λ (j : ℕ). sum (map (λ j. namesIn (rowAt answers n j) k) (range 0 j))) (sym (add-one i));
         few = omega (arith, s .few, r .few, length-row i g h e, ap (λ (x : ℕ). x * n) (add-one i), suc-mul i n);

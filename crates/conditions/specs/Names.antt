@@ -1,10 +1,10 @@
--- A row of answers, that of one group, and a byte for each name in which a mark says that the name was met.
+-- A row of answers, that of one group, and a byte for each answer in which a mark says that the answer was met.
 use Prim.Native.Nat.{ℕ, _+_, _*_, _-_, _≤_, _<_}
-use mathlib.Core.Bool.{Bool, not, _&&_, cond}
+use mathlib.Core.Bool.{Bool}
 use mathlib.Core.List.{List, map}
 use mathlib.Core.Path.{_≡_}
-use lib.Dec.{leb, eqb}
-use lib.ListN.{length, getD, set, take, drop}
+use lib.Dec.{eqb}
+use lib.ListN.{length, getD, take, drop}
 use Rattle.lists.specs.Below.{anyBelow, countBelow}
 use Rattle.lists.specs.Range.{range}
 use Rattle.lists.specs.Sum.{sum}
@@ -13,36 +13,45 @@ use Rattle.grouping.specs.Given.{Given}
 use Rattle.grouping.specs.Conditions.{pairs}
 use Rattle.conditions.specs.HandsIn.{HandsRows}
 
--- an answer has a name, and the name is not marked
-unfoldable pub firstMet : List ℕ → ℕ → ℕ → Bool
-firstMet seen mark answer = leb 2 answer && not (eqb (getD seen (answer - 2) 0) mark)
-
--- the bytes with the name of an answer marked
-unfoldable pub marked : List ℕ → ℕ → ℕ → List ℕ
-unfolding firstMet
-marked seen mark answer = cond (firstMet seen mark answer) (set seen (answer - 2) mark) seen
-
--- one of the first so many answers of a row has that name
+-- one of the first so many answers of a row is that answer
 unfoldable pub metIn : List ℕ → ℕ → ℕ → Bool
 unfolding anyBelow
-metIn row i name = anyBelow (λ m. eqb (getD row m 0) (2 + name)) i
+metIn row i answer = anyBelow (λ m. eqb (getD row m 0) answer) i
+
+-- the distinct answers below k of a row
+unfoldable pub answersIn : List ℕ → ℕ → ℕ
+unfolding countBelow metIn
+answersIn row k = countBelow (metIn row (length row)) k
 
 -- the distinct names below k among a row's answers of 2 or more
 unfoldable pub namesIn : List ℕ → ℕ → ℕ
 unfolding countBelow metIn
-namesIn row k = countBelow (metIn row (length row)) k
+namesIn row k = countBelow (λ name. metIn row (length row) (2 + name)) k
 
--- each answer of the row has no name or one that has a byte, and no byte has the mark yet
+-- an answer has the mark
+abbrev pub has : List ℕ → ℕ → ℕ → Bool
+has seen mark answer = eqb (getD seen answer 0) mark
+
+-- there is a byte for each answer, named or not, and no byte has the mark yet
 pub record RowReady (row seen : List ℕ) (mark : ℕ) : Type 0 where
-  pub named : (m : ℕ) → m < length row → getD row m 0 < 2 + length seen
-  pub unmarked : (name : ℕ) → getD seen name 0 < mark
+  pub unnamed : 2 ≤ length seen
+  pub within : (m : ℕ) → m < length row → getD row m 0 < length seen
+  pub unmarked : (answer : ℕ) → getD seen answer 0 < mark
 
--- the count is that of the row's names, and no byte is above the mark
-pub record RowCounted (row seen after : List ℕ) (mark count : ℕ) : Type 0 where
-  pub counted : count ≡ namesIn row (length seen)
+-- the count is that of the row's answers, which have the mark, and no byte is above the mark
+pub record AnswersCounted (row seen after : List ℕ) (mark count : ℕ) : Type 0 where
+  pub counted : count ≡ answersIn row (length seen)
+  pub marks : (answer : ℕ) → answer < length seen → has after mark answer ≡ metIn row (length row) answer
   pub few : count ≤ length row
   pub same-length : length after ≡ length seen
-  pub within : (name : ℕ) → getD after name 0 ≤ mark
+  pub within : (answer : ℕ) → getD after answer 0 ≤ mark
+
+-- the count is that of the row's names
+pub record RowCounted (row seen after : List ℕ) (mark count : ℕ) : Type 0 where
+  pub counted : count ≡ namesIn row (length seen - 2)
+  pub few : count ≤ length row
+  pub same-length : length after ≡ length seen
+  pub within : (answer : ℕ) → getD after answer 0 ≤ mark
 
 -- the answers of group i
 unfoldable pub rowAt : List ℕ → ℕ → ℕ → List ℕ
@@ -53,13 +62,14 @@ unfoldable pub namesOfRows : List ℕ → ℕ → ℕ → ℕ → ℕ
 unfolding sum range namesIn rowAt
 namesOfRows answers k n g = sum (map (λ i. namesIn (rowAt answers n i) k) (range 0 g))
 
--- what g rows of n answers need: a byte for each name, all of them zero, and a mark for each group
+-- what g rows of n answers need: a byte for each answer, all of them zero, and a mark for each group
 pub record RowsReady (answers seen : List ℕ) (n g : ℕ) : Type 0 where
+  pub unnamed : 2 ≤ length seen
   pub whole : length answers ≡ g * n
   pub modules : n ≤ moduleLimit
   pub groups : g ≤ groupLimit
-  pub named : (j : ℕ) → j < length answers → getD answers j 0 < 2 + length seen
-  pub clear : (name : ℕ) → getD seen name 0 ≡ 0
+  pub within : (j : ℕ) → j < length answers → getD answers j 0 < length seen
+  pub clear : (answer : ℕ) → getD seen answer 0 ≡ 0
 
 pub record RowsCounted (answers : List ℕ) (k n g count : ℕ) : Type 0 where
   pub counted : count ≡ namesOfRows answers k n g

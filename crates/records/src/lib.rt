@@ -8,37 +8,32 @@ ghost use Rattle.records.specs.Marks.{Unmarked, KnowReady};
 ghost use Rattle.lists.specs.Stored.{stored};
 ghost use Rattle.records.specs.Bad.{badFirst, badRecord, badChain, badRecords, RecordTables, ChainTables};
 
-// A first record above d.
+// A first record above d. All are looked at, also behind a bad one: so several are compared at once.
 fn bad_first(first: &[u32], n: usize, d: usize) -> bool
     requires { ⌜ n ≤ length (now first) ⌝ }
     ensures { λ r. ⌜ r ≡ badFirst (now (first .entry)) n d ⌝ }
 {
+    let mut bad = false;
     let mut m = 0;
     while m < n {
-        if d < first[m] as usize {
-            return true;
-        }
+        bad = (d < first[m] as usize) | bad;
         m = m + 1;
     }
-    false
+    bad
 }
 
-// A record from 1 to d with a next above d or a module not below n.
+// A record from 1 to d with a next above d or a module not below n. All are looked at here too.
 fn bad_record(dependency: &[u32], next: &[u32], n: usize, d: usize) -> bool
     requires { ⌜ (length (now dependency) ≡ d + 1) × (length (now next) ≡ d + 1) ⌝ }
     ensures { λ r. ⌜ r ≡ badRecord (now (dependency .entry)) (now (next .entry)) n d ⌝ }
 {
+    let mut bad = false;
     let mut k = 0;
     while k < d {
-        if d < next[k + 1] as usize {
-            return true;
-        }
-        if n <= dependency[k + 1] as usize {
-            return true;
-        }
+        bad = (d < next[k + 1] as usize) | (n <= dependency[k + 1] as usize) | bad;
         k = k + 1;
     }
-    false
+    bad
 }
 
 // The records of a chain that ends are marked as known to end, up to its zero or to one that is known already.

@@ -1,80 +1,61 @@
--- `conditions::names::count_names` meets its contract. The loop's invariant: the first m answers are met and counted.
-use Prim.Native.Nat.{_-_, _≤_}
+-- `conditions::names::count_names` meets its contract: of the row's answers those without a name are taken off.
+use Prim.Native.Nat.{_+_, _-_}
+use mathlib.Core.Path.{_≡_}
 use native.Mathlib.Omega.{arith}
+use borrow.Author.Needs.{needs}
 use lib.ListN.{length}
-use Rattle.conditions.proofs.MetNames.{Counting, counting-begins, counting-turns, counting-ends}
+use Rattle.conditions.specs.Names.{namesIn}
+use Rattle.conditions.proofs.MetNames.{with-unnamed, names-counted}
 use Rattle.conditions.proofs.names.count_names.Statement.{statement}
 use Rattle.conditions.proofs.names.count_names.Tie as tie
 
-abbrev Inv-loop : tie.InvT-loop
-Inv-loop row seen₀ mark count₀ m₀ seen count m = (m ≤ length row) × Counting row seen₀ mark m seen count
+count-answers-requires : tie.Need-count-answers-requires
+count-answers-requires c κs = search needs
 
-abbrev μ-loop : tie.MeasureT-loop
-μ-loop row seen₀ mark count₀ m₀ seen count m = length row - m
+met-requires : tie.Need-met-requires
+met-requires c κs = search needs
 
-loop-holds : tie.Need-loop-holds Inv-loop μ-loop
-loop-holds c = let s = c .before .before in (omega arith, counting-begins (s .args .row .now) (s .args .seen .now) (s .args .mark) (s .pre))
+met-requires-2 : tie.Need-met-requires-2
+met-requires-2 c κs = search needs
 
-mul-meet : tie.Need-mul-meet Inv-loop μ-loop
-mul-meet c = omega arith
+abbrev entry : tie.After-met2 → tie.Start
+entry c = c .before .before .before .before .before .before .before .before .before .before
 
-shared-slice-read-meet : tie.Need-shared-slice-read-meet Inv-loop μ-loop
-shared-slice-read-meet c = omega arith
+-- all answers are those with a name and the two others
+parts : (c : tie.After-met2) →
+    let s = entry c in
+    c .before .before .before .before .before .before .count-answers .result
+    ≡ namesIn (s .args .row .now) (length (s .args .seen .now) - 2) + (c .met2 .result + c .before .before .met .result)
+parts c =
+    let s = entry c in
+    let a = c .before .before .before .before .before .before .count-answers in
+    with-unnamed (s .args .row .now) (s .args .seen .now) (s .args .mark) (s .pre .unnamed) (a .ensures) (c .before .before .met .result) (c .met2 .result)
+    (c .before .before .met .ensures) (c .met2 .ensures)
 
-meet-requires : tie.Need-meet-requires Inv-loop μ-loop
-meet-requires c κs =
-    let s = c .before .before .before .before .before .before in
-    let l = c .before .before .before .loop in
-    omega (arith, s .pre .named (l .m) (omega arith), l .inv .1 .same-length)
+sub-result : tie.Need-sub-result
+sub-result c = omega (arith, parts c)
 
-add-count : tie.Need-add-count Inv-loop μ-loop
-add-count c =
-    let s = c .before .before .before .before .before .before .before .before .before in
-    let l = c .before .before .before .before .before .before .loop in
-    let named = s .pre .named (l .m) (omega arith) in
-    let met = c .before .before .meet in
-    let t = counting-turns (s .args .row .now) (s .args .seen .now) (s .args .mark) (l .m) (l .seen) (l .count) (l .inv .1) named (met .result) _
-    (met .ensures .0) (met .ensures .1) in
-    omega (arith, t .few)
+sub-result-2 : tie.Need-sub-result-2
+sub-result-2 c = omega (arith, parts c)
 
-add-m : tie.Need-add-m Inv-loop μ-loop
-add-m c = omega arith
+same-length : tie.Need-same-length
+same-length c = search needs
 
-loop-less : tie.Need-loop-less Inv-loop μ-loop
-loop-less c = omega arith
-
-loop-again : tie.Need-loop-again Inv-loop μ-loop
-loop-again c =
-    let s = c .before .before .before .before .before .before .before .before .before in
-    let l = c .before .before .before .before .before .before .loop in
-    let named = s .pre .named (l .m) (omega arith) in
-    let met = c .before .before .meet in
-    let t = counting-turns (s .args .row .now) (s .args .seen .now) (s .args .mark) (l .m) (l .seen) (l .count) (l .inv .1) named (met .result) _
-    (met .ensures .0) (met .ensures .1) in
-    (omega arith, t)
-
-same-length : tie.Need-same-length Inv-loop μ-loop
-same-length c = c .before .loop .inv .1 .same-length
-
-returns : tie.Need-returns Inv-loop μ-loop
+returns : tie.Need-returns
 returns c =
-    let s = c .before .before .before .before in
-    let l = c .before .loop in
-    counting-ends (s .args .row .now) (s .args .seen .now) (s .args .mark) (l .m) (l .seen) (l .count) (l .inv .1) (omega arith)
+    let s = entry c in
+    let a = c .before .before .before .before .before .before .count-answers in
+    names-counted (s .args .row .now) (s .args .seen .now) (s .args .mark) (s .pre .unnamed) (a .ensures) (c .before .before .met .result) (c .met2 .result)
+    (c .before .before .met .ensures) (c .met2 .ensures)
 
 pub count-names-spec : {M : Type 1} → statement M
 count-names-spec =
     tie.close
     (tie.spec
-    Inv-loop
-    μ-loop
-    loop-holds
-    mul-meet
-    shared-slice-read-meet
-    meet-requires
-    add-count
-    add-m
-    loop-less
-    loop-again
+    count-answers-requires
+    met-requires
+    met-requires-2
+    sub-result
+    sub-result-2
     same-length
     returns)

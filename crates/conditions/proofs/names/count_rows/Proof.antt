@@ -1,6 +1,6 @@
 -- `conditions::names::count_rows` meets its contract. The loop's invariant: the rows of the first i groups are counted.
 use Prim.Native.Nat.{_-_, _≤_}
-use mathlib.Core.Path.{_≡_, refl}
+use mathlib.Core.Path.{_≡_}
 use native.Mathlib.Omega.{arith}
 use lib.ListN.{length}
 use Rattle.conditions.proofs.RowCount.{row-bound, row-in, row-part}
@@ -9,7 +9,7 @@ use Rattle.conditions.proofs.names.count_rows.Statement.{statement}
 use Rattle.conditions.proofs.names.count_rows.Tie as tie
 
 abbrev Inv-loop : tie.InvT-loop
-Inv-loop answers seen₀ n g count₀ i₀ seen count i = (i ≤ g) × Rows answers (length seen₀) n i seen count
+Inv-loop answers seen₀ n g count₀ i₀ seen count i = (i ≤ g) × Rows answers (length seen₀ - 2) n i seen count
 
 abbrev μ-loop : tie.MeasureT-loop
 μ-loop answers seen₀ n g count₀ i₀ seen count i = g - i
@@ -18,7 +18,7 @@ loop-holds : tie.Need-loop-holds Inv-loop μ-loop
 loop-holds c =
     let s = c .before .before in (
       omega arith,
-      rows-begin (s .args .answers .now) (length (s .args .seen .now)) (s .args .n) (s .args .seen .now) refl (s .pre .clear),
+      rows-begin (s .args .answers .now) (length (s .args .seen .now) - 2) (s .args .n) (s .args .seen .now) (omega (arith, s .pre .unnamed)) (s .pre .clear),
     )
 
 mul-start : tie.Need-mul-start Inv-loop μ-loop
@@ -64,16 +64,16 @@ count-names-requires : tie.Need-count-names-requires Inv-loop μ-loop
 count-names-requires c κs =
     let s = c .before .before .before .before .before .before in
     let l = c .before .before .before .loop in
-    rw (row-part (s .args .answers .now) (length (s .args .seen .now)) (s .args .n) (l .i))
-    (row-ready (s .args .answers .now) (length (s .args .seen .now)) (s .args .n) (l .i) (s .args .g) (l .seen) (l .count) (omega arith)
-    (s .pre .whole) (s .pre .named) (l .inv .1))
+    rw (row-part (s .args .answers .now) (length (s .args .seen .now) - 2) (s .args .n) (l .i))
+    (row-ready (s .args .answers .now) (length (s .args .seen .now) - 2) (s .args .n) (l .i) (s .args .g) (l .seen) (l .count) (omega arith)
+    (s .pre .whole) (λ j h. omega (arith, s .pre .within j h, s .pre .unnamed)) (l .inv .1))
 
 add-count : tie.Need-add-count Inv-loop μ-loop
 add-count c =
     let s = c .before .before .before .before .before .before .before .before .before in
     let l = c .before .before .before .before .before .before .loop in
-    let counted = rw (row-part (s .args .answers .now) (length (s .args .seen .now)) (s .args .n) (l .i)) at (c .before .before .count-names .ensures) in
-    let t = rows-turn (s .args .answers .now) (length (s .args .seen .now)) (s .args .n) (l .i) (s .args .g) (l .seen) _ (l .count)
+    let counted = rw (row-part (s .args .answers .now) (length (s .args .seen .now) - 2) (s .args .n) (l .i)) at (c .before .before .count-names .ensures) in
+    let t = rows-turn (s .args .answers .now) (length (s .args .seen .now) - 2) (s .args .n) (l .i) (s .args .g) (l .seen) _ (l .count)
     (c .before .before .count-names .result) (omega arith) (s .pre .whole) (l .inv .1) counted in
     omega (arith, t .few, row-bound (l .i) (s .args .g) (s .args .n) (omega arith) (s .pre .groups) (s .pre .modules))
 
@@ -87,13 +87,13 @@ loop-again : tie.Need-loop-again Inv-loop μ-loop
 loop-again c =
     let s = c .before .before .before .before .before .before .before .before .before in
     let l = c .before .before .before .before .before .before .loop in
-    let counted = rw (row-part (s .args .answers .now) (length (s .args .seen .now)) (s .args .n) (l .i)) at (c .before .before .count-names .ensures) in
-    let t = rows-turn (s .args .answers .now) (length (s .args .seen .now)) (s .args .n) (l .i) (s .args .g) (l .seen) _ (l .count)
+    let counted = rw (row-part (s .args .answers .now) (length (s .args .seen .now) - 2) (s .args .n) (l .i)) at (c .before .before .count-names .ensures) in
+    let t = rows-turn (s .args .answers .now) (length (s .args .seen .now) - 2) (s .args .n) (l .i) (s .args .g) (l .seen) _ (l .count)
     (c .before .before .count-names .result) (omega arith) (s .pre .whole) (l .inv .1) counted in
     (omega arith, t)
 
 same-length : tie.Need-same-length Inv-loop μ-loop
-same-length c = c .before .loop .inv .1 .same-length
+same-length c = omega (arith, c .before .loop .inv .1 .same-length, c .before .before .before .before .pre .unnamed)
 
 returns : tie.Need-returns Inv-loop μ-loop
 returns c =
