@@ -5,6 +5,7 @@ pub mod SharedKeys
 pub mod SameIds
 pub mod Ranking
 pub mod PutByOrder
+pub mod BySlots
 pub mod InIdOrder
 pub mod SharedByTwo
 pub mod PlacesByOrder

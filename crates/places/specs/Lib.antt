@@ -2,5 +2,6 @@
 pub mod AnyTwo
 pub mod Listed
 pub mod ByOrder
+pub mod Slots
 pub mod ById
 pub mod Ordered

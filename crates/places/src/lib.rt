@@ -3,3 +3,4 @@ pub mod by_id;
 pub mod by_order;
 pub mod listed;
 pub mod ordered;
+mod slots;
