@@ -1,6 +1,6 @@
 -- An item above its maximum: what its modules in id order are cut and emitted by, and that the chunks are those of its pieces.
 use Prim.Native.Nat.{ℕ, _+_, _^_, _≤_, _<_}
-use mathlib.Core.List.{List, map, List·Permᴰ}
+use mathlib.Core.List.{List, List·Permᴰ}
 use mathlib.Core.Path.{_≡_, sym, ap, ap₂, _∙_, subst}
 use native.Mathlib.Numerals.{add-one}
 use native.Mathlib.Omega.{arith}

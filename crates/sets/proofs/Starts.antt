@@ -1,5 +1,5 @@
 -- Several starts are visited one after another, and a walk from what is marked then reaches just what the starts reach.
-use Prim.Native.Nat.{ℕ, zero, suc, _+_, _≤_, _<_}
+use Prim.Native.Nat.{ℕ, _+_, _≤_, _<_}
 use mathlib.Core.Bool.{Bool, true}
 use mathlib.Core.List.{List, _∷_, _++_, [], foldl, List·Memᴰ}
 use mathlib.Core.Logic.{⊎-elim}
