@@ -11,7 +11,8 @@ ghost use Rattle.lists.specs.Stored.{stored};
 ghost use Rattle.capture.specs.Followed.{unfollowed};
 ghost use Rattle.capture.specs.Walk.{WalkReady, MarkedReady, Walked, FollowReady, VisitReady, visited};
 
-// A module that a chain names: it is marked and put on the list if it is eligible and not marked yet.
+// A module that a chain names: it is marked and put on the list if it is eligible and not marked yet. Most that are named are marked, so this is asked
+// first.
 pub fn visit(
     flags: &[u8],
     marks: &mut [u8],
@@ -23,11 +24,11 @@ pub fn visit(
     ensures { λ r. ⌜ visited (now (flags .entry)) (record { marks = now (marks .entry); queue = now (queue .entry); tail = tail }) (named .0)
         ≡ record { marks = now (marks .exit); queue = now (queue .exit); tail = r } ⌝ }
 {
-    if !flags::is_eligible_at(flags, named) {
-        return tail;
-    }
     let at = named.0 as usize;
     if marks[at] != 0 {
+        return tail;
+    }
+    if !flags::is_eligible_at(flags, named) {
         return tail;
     }
     marks[at] = 1;
