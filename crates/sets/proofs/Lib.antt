@@ -8,6 +8,7 @@ pub mod Counting
 pub mod Starts
 pub mod Building
 pub mod FoundAlone
+pub mod ByName
 pub mod MatchedKeys
 pub mod TakesAt
 pub mod FromPassed

@@ -5,7 +5,6 @@ use mathlib.Core.Path.{_≡_, sym, ap, _∙_, subst}
 use native.Mathlib.Omega.{arith}
 use lib.Dec.{ltb}
 use lib.ListN.{length, getD, take, length-map}
-use lib.Seq.{length-take-le}
 use Rattle.lists.specs.Keep.{keep}
 use Rattle.lists.specs.Range.{range}
 use Rattle.lists.specs.Sort.{sortBy}
@@ -13,10 +12,10 @@ use Rattle.lists.proofs.KeepLength.{keep-le}
 use Rattle.lists.proofs.Members.{keep-mem, range-mem}
 use Rattle.lists.proofs.Position.{getD-mem}
 use Rattle.lists.proofs.Range.{length-range}
-use Rattle.lists.proofs.Sort.{sort-mem}
 use Rattle.lists.proofs.Rearranged.{sort-length}
 use Rattle.lists.specs.Area.{Holds}
-use Rattle.sets.specs.Matched.{Matching, Matchable, Narrow, takesModule, keyAt, takingPart, keysOf}
+use Rattle.sets.specs.ByName.{Fits}
+use Rattle.sets.specs.Matched.{Matching, Matchable, takesModule, keyAt, takingPart, keysOf}
 use Rattle.sets.proofs.Building.{front}
 
 module _ (g : Matching) (order : List ℕ) where
@@ -47,9 +46,8 @@ module _ (g : Matching) (order : List ℕ) where
         let small : (getD (g .answers) (getD order (o .0) 0) 0 - 2) * 4096 + o .0 < 2 ^ 32 = omega (arith, ready .few) in
         subst (λ (k : ℕ). k < 2 ^ 32) (o .2) small
 
-    pub sorted-narrow : (area : List ℕ) → length sorted ≡ length area → Narrow sorted area
-    sorted-narrow area e =
-        record { small = λ i h. key-narrow (getD sorted i 0) (sort-mem ltb (keysOf g order) _ (getD-mem sorted i 0 h)); same-length = e }
+    pub keys-fit : Fits (keysOf g order)
+    keys-fit i h = key-narrow (getD (keysOf g order) i 0) (getD-mem (keysOf g order) i 0 h)
 
   module _ {keys : List ℕ} {count : ℕ} (h : Holds (keysOf g order) count keys) where
     pub count-few : count ≤ length order
@@ -58,11 +56,5 @@ module _ (g : Matching) (order : List ℕ) where
     count-sorted : length sorted ≡ count
     count-sorted = sort-length ltb (keysOf g order) ∙ sym (h .number)
 
-    pub sorted-front : {l : List ℕ} (rest : List ℕ) → l ≡ sortBy ltb (take count keys) → take count (l ++ rest) ≡ sorted
-    sorted-front rest e = front rest count (e ∙ ap (sortBy ltb) (h .entries)) count-sorted
-
-    pub sorted-fits : (area : List ℕ) → length order ≤ length area → length sorted ≡ length (take count area)
-    sorted-fits area r = count-sorted ∙ sym (length-take-le count area (omega (arith, count-few)))
-
-    pub sorted-holds : {m : List ℕ} (rest : List ℕ) → m ≡ sorted → Holds sorted count (m ++ rest)
-    sorted-holds rest e = record { number = sym count-sorted; entries = front rest count e count-sorted }
+    pub sorted-holds : {m : List ℕ} (rest : List ℕ) → m ≡ sortBy ltb (take count keys) → Holds sorted count (m ++ rest)
+    sorted-holds rest e = record { number = sym count-sorted; entries = front rest count (e ∙ ap (sortBy ltb) (h .entries)) count-sorted }

@@ -71,18 +71,8 @@ pub record Matchable (g : Matching) (order area : List ℕ) : Type 0 where
 pub record Nameable (answers order area : List ℕ) : Type 0 where
   pub few : length order ≤ 4096
   pub answered : (i : ℕ) → i < length order → getD order i 0 < length answers
+  pub name : (i : ℕ) → i < length order → getD answers (getD order i 0) 0 < 65537
   pub room : length order ≤ length area
-
--- the modules of the order can be asked for, and there is room in each of three areas, of which two are for the sort
-pub record GroupMatchable (g : Matching) (order keys spare matched : List ℕ) : Type 0 where
-  pub matchable : Matchable g order keys
-  pub spare-room : length order ≤ length spare
-  pub matched-room : length order ≤ length matched
-
--- numbers that fit in 32 bits, and an area of their length
-pub record Narrow (keys area : List ℕ) : Type 0 where
-  pub small : (i : ℕ) → i < length keys → getD keys i 0 < 2 ^ 32
-  pub same-length : length keys ≡ length area
 
 -- [from, end) is all of the numbers from `from` on that have the name of the first of them
 pub record RunEnd (matched : List ℕ) (from end : ℕ) : Type 0 where

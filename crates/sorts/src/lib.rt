@@ -1,5 +1,5 @@
 // Sorts. Each is stated as equal to the sort by insertion of `lists`, ties in their order.
-mod ascent;
+pub mod ascent;
 mod insertion;
 pub mod numbers;
 mod parts;

@@ -12,7 +12,12 @@ asks-nothing-requires c κs = search needs
 gather-named-requires : tie.Need-gather-named-requires
 gather-named-requires c κs =
     let s = c .before .before .before .before .before .before .before .before .before in
-    record { few = s .pre .few; answered = λ i h. s .pre .readable i h .answered; room = s .pre .room }
+    record {
+      few = s .pre .few;
+      answered = λ i h. s .pre .readable i h .answered;
+      name = λ i h. s .pre .readable i h .name;
+      room = s .pre .room;
+    }
 
 same-length : tie.Need-same-length
 same-length c = search needs

@@ -66,7 +66,7 @@ shared-slice-read-answer : tie.Need-shared-slice-read-answer Inv-loop μ-loop
 shared-slice-read-answer c = readable (c .before) .answered
 
 key-of-requires : tie.Need-key-of-requires Inv-loop μ-loop
-key-of-requires c κs = omega (arith, start (c .before) .pre .few)
+key-of-requires c κs = (readable (c .before) .name, omega (arith, start (c .before) .pre .few))
 
 mul-keys : tie.Need-mul-keys Inv-loop μ-loop
 mul-keys c = omega (arith, room (c .before .before))

@@ -54,7 +54,9 @@ shared-slice-read-answer-2 : tie.Need-shared-slice-read-answer-2 Inv-loop μ-loo
 shared-slice-read-answer-2 c = answered (c .before)
 
 key-of-requires : tie.Need-key-of-requires Inv-loop μ-loop
-key-of-requires c κs = omega (arith, start (c .before) .pre .few)
+key-of-requires c κs =
+    let a = c .before in
+    (start a .pre .name (a .before .before .loop .place) (omega arith), omega (arith, start a .pre .few))
 
 mul-keys : tie.Need-mul-keys Inv-loop μ-loop
 mul-keys c = omega (arith, room (c .before .before))
