@@ -10,8 +10,12 @@ use std::{
 /// The programs that are looked for.
 const NAMES: [&str; 4] = ["chromium", "chromium-browser", "google-chrome", "google-chrome-stable"];
 
-/// The first browser on the path. Without one a word is printed, and the caller skips its test.
+/// The first browser on the path. Without one, or where the caller's shell wants none, a word is printed, and the caller skips its test.
 pub fn browser() -> Option<PathBuf> {
+    if env::var_os("GENTROPI_NO_BROWSER").is_some() {
+        let _ = writeln!(io::stderr(), "SKIPPED: GENTROPI_NO_BROWSER is set");
+        return None;
+    }
     let folders: Vec<PathBuf> = env::split_paths(&env::var_os("PATH")?).collect();
     let paths = NAMES.iter().flat_map(|name| folders.iter().map(move |folder| folder.join(name)));
     let found = paths.into_iter().find(|path| path.is_file());
