@@ -1,7 +1,6 @@
--- What the order of the turns and the settings hand over to a run of a build.
+-- What the order of the turns hands over to a run of a build.
 use Prim.Native.Nat.{ℕ, _<_}
-use mathlib.Core.List.{List}
-use mathlib.Core.Path.{_≡_, ap₂, _∙_}
+use mathlib.Core.Path.{_≡_, _∙_}
 use native.Mathlib.Omega.{arith}
 use lib.ListN.{length, getD}
 use Rattle.lists.specs.Range.{range}
@@ -10,14 +9,8 @@ use Rattle.lists.proofs.Position.{getD-mem}
 use Rattle.lists.proofs.Range.{length-range}
 use Rattle.lists.proofs.Sort.{sort-mem}
 use Rattle.lists.proofs.Rearranged.{sort-length}
-use Rattle.options.specs.declared.Options.{Options}
 use Rattle.options.specs.declared.Settings.{Settings}
-use Rattle.options.specs.Force.{settingsUnder}
-use Rattle.options.specs.Tables.{GroupTables, groupAt}
-use Rattle.grouping.specs.Given.{Given}
-use Rattle.grouping.specs.Settings.{settingsOf}
 use Rattle.settling.specs.Traversal.{groupFirst, groupOrder}
-use Rattle.groups.specs.Order.{AreSettings}
 
 -- each group has one turn
 module _ (settings : ℕ → Settings) (count : ℕ) where
@@ -31,11 +24,3 @@ module _ (settings : ℕ → Settings) (count : ℕ) where
       let turns = groupOrder settings count in
       let r = range-mem 0 count (getD turns i 0) (sort-mem (groupFirst settings) (range 0 count) (getD turns i 0) (getD-mem turns i 0 h)) in
       omega arith
-
--- the settings of a build's options
-pub build-settings : (b : Given) (table : List Settings) (global : Options) (tables : GroupTables) → global ≡ b .shared .options
-    → tables ≡ b .variant .groups → AreSettings table (b .variant .g) (λ g. settingsUnder global (groupAt tables g))
-    → AreSettings table (b .variant .g) (settingsOf b)
-unfolding settingsOf
-build-settings b table global tables p q are g other h =
-    are g other h ∙ ap₂ (λ (o : Options) (t : GroupTables). settingsUnder o (groupAt t g)) p q

@@ -10,6 +10,5 @@ pub mod InIdOrder
 pub mod SharedByTwo
 pub mod PlacesByOrder
 pub mod RankOrder
-pub mod ByRank
 pub mod Handing
 pub mod OfBuild

@@ -1,6 +1,5 @@
 -- Ranks that are written one after another: after i turns the first i modules of the list have theirs.
 use Prim.Native.Nat.{ℕ, _+_, _≤_, _<_}
-use mathlib.Core.Bool.{Bool, true, false, true≢false}
 use mathlib.Core.List.{List, List·Memᴰ}
 use mathlib.Core.Logic.{⊎-elim}
 use mathlib.Core.Path.{_≡_, refl, sym, ap, _∙_}
@@ -8,9 +7,7 @@ use native.Mathlib.Nat.{eq-or-lt-of-le}
 use native.Mathlib.Omega.{arith}
 use lib.ListN.{length, getD, set, length-set}
 use lib.Seq.{getD-set-same, getD-set-other}
-use Rattle.lists.specs.Elem.{elem}
-use Rattle.lists.proofs.Elem.{elem-mem, mem-elem}
-use Rattle.lists.proofs.Position.{mem-getD, getD-mem}
+use Rattle.lists.proofs.Position.{getD-mem}
 use Rattle.places.specs.ById.{HasRanks, Ranks}
 
 pub record RanksTo (list rank₀ rank : List ℕ) (i : ℕ) : Type 0 where
@@ -55,15 +52,3 @@ module _ (list rank₀ rank : List ℕ) (i : ℕ) (given : HasRanks list rank₀
     where
       within : (m j : ℕ) → j < i → m ≡ getD list j 0 → List·Memᴰ m list
       within m j l e = rw e (getD-mem list j 0 (omega (arith, r .fits)))
-
--- ranks stay below 4,096
-pub ranks-small : {list rank₀ rank : List ℕ} → Ranks list rank₀ rank → length list ≤ 4096 → ((m : ℕ) → getD rank₀ m 0 < 4096)
-    → (m : ℕ) → getD rank m 0 < 4096
-ranks-small {list} {rank₀} {rank} r few small m = go (elem m list) refl
-  where
-    go : (t : Bool) → elem m list ≡ t → getD rank m 0 < 4096
-    go true e =
-        let s = mem-getD 0 (elem-mem m list e) in
-        let at : getD rank m 0 ≡ s .0 = ap (λ (k : ℕ). getD rank k 0) (sym (s .2)) ∙ r .position (s .0) (s .1) in
-        omega (arith, s .1)
-    go false e = omega (arith, small m, r .others m (λ i. true≢false (sym (mem-elem m i) ∙ e)))

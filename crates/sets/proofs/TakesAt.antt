@@ -1,14 +1,12 @@
 -- The test for a module that takes part against that of the definition for its place, and the name that it takes part with.
 use Prim.Native.Nat.{ℕ, _+_, _-_, _*_, _<_}
 use mathlib.Core.Bool.{Bool, true, false, _&&_, and-true, and-false, true≢false}
-use mathlib.Core.Logic.{_↔_}
-use mathlib.Core.Path.{_≡_, refl, sym, ap, ap₂, _∙_}
+use mathlib.Core.Path.{_≡_, refl, sym, ap, _∙_}
 use native.Mathlib.Omega.{arith}
-use borrow.Author.Tests.{eqb-true, eqb-false, eq-eqb, leb-true, le-leb}
+use borrow.Author.Tests.{eqb-true, eqb-false, leb-true, le-leb}
 use lib.Dec.{eqb, leb}
 use lib.ListN.{length, getD, drop}
 use lib.Seq.{getD-take, getD-drop}
-use Rattle.lists.proofs.Below.{both}
 use Rattle.lists.proofs.Map.{getD-map-below}
 use Rattle.lists.proofs.Position.{getD-mem}
 use Rattle.filter.specs.Filter.{passes}
@@ -53,12 +51,3 @@ module _ (b : Given) (g : ℕ) where
         ∙ start-at b g name p h u
         ∙ answer-test (answerOf b g m) name t
         ∙ ap (λ (a : ℕ). (leb 2 a && t) && eqb (a - 2) name) (sym (answer-at m below))
-
-    -- the module takes part just where its place does, with some name
-    pub takes-some : takesModule (matchingOf b g) (moduleAt b p) ≡ true ↔ ((name : ℕ) × (takesPart (settingsOf b g) g name (memberAt (treeOf b) p) ≡ true))
-    takes-some =
-        let m = moduleAt b p in
-        let name = nameOf (matchingOf b g) m in (
-          λ e. (name, takes-at name ∙ ap₂ _&&_ e (eq-eqb name name refl)),
-          λ o. both (takesModule (matchingOf b g) m) (eqb name (o .0)) (sym (takes-at (o .0)) ∙ o .1) .0,
-        )
