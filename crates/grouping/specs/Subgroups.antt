@@ -9,7 +9,7 @@ use Rattle.lists.specs.Keep.{keep}
 use Rattle.lists.specs.Range.{range}
 use Rattle.bitset.specs.Entries.{wordAt}
 use Rattle.bitset.specs.declared.entries.BitSet.{BitSet}
-use Rattle.merge.specs.Subgroup.{Subgroup}
+use Rattle.joins.specs.Subgroup.{Subgroup}
 use Rattle.merge.specs.Merge.{Merging, merged}
 use Rattle.options.specs.declared.Settings.{Settings}
 use Rattle.grouping.specs.Tree.{Tree, memberAt}

@@ -16,7 +16,7 @@ use Rattle.lists.proofs.Members.{getD-holds}
 use Rattle.lists.proofs.Sort.{sort-mem}
 use Rattle.bitset.specs.Entries.{empty, unionOf, rowOf}
 use Rattle.bitset.specs.declared.entries.BitSet.{BitSet}
-use Rattle.merge.specs.Subgroup.{Subgroup}
+use Rattle.joins.specs.Subgroup.{Subgroup}
 use Rattle.grouping.specs.Given.{Given}
 use Rattle.options.specs.declared.Settings.{Settings}
 use Rattle.grouping.specs.Settings.{allSettings}

@@ -17,7 +17,7 @@ use Rattle.lists.proofs.Members.{mem-keep, range-mem}
 use Rattle.lists.proofs.Position.{getD-mem}
 use Rattle.lists.proofs.Range.{length-range}
 use Rattle.bitset.specs.declared.entries.BitSet.{BitSet}
-use Rattle.merge.specs.Subgroup.{Subgroup}
+use Rattle.joins.specs.Subgroup.{Subgroup}
 use Rattle.options.specs.declared.Settings.{Settings}
 use Rattle.grouping.specs.Tree.{Tree, memberAt}
 use Rattle.grouping.specs.Item.{Item}

@@ -20,7 +20,7 @@ use Rattle.lists.proofs.Range.{length-range}
 use Rattle.lists.proofs.Sort.{Pairs, none, more}
 use Rattle.bitset.specs.Entries.{empty}
 use Rattle.bitset.specs.declared.entries.BitSet.{BitSet}
-use Rattle.merge.specs.Subgroup.{Subgroup}
+use Rattle.joins.specs.Subgroup.{Subgroup}
 use Rattle.options.specs.declared.Settings.{Settings}
 use Rattle.grouping.specs.Tree.{Tree, memberAt}
 use Rattle.grouping.specs.Item.{Item}

@@ -8,8 +8,8 @@ use Rattle.lists.proofs.Least.{cond-holds}
 use Rattle.lists.proofs.Members.{keep-mem}
 use Rattle.bitset.specs.Entries.{unionOf}
 use Rattle.bitset.specs.declared.entries.BitSet.{BitSet}
-use Rattle.merge.specs.Subgroup.{Subgroup}
-use Rattle.merge.specs.Merge.{Merging, others, united, joined, merged}
+use Rattle.joins.specs.Subgroup.{Subgroup, united}
+use Rattle.merge.specs.Merge.{Merging, others, joined, merged}
 use Rattle.merge.proofs.Invariants.{merged-keeps}
 
 -- it holds of the bits of every subgroup of a list

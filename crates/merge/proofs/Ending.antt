@@ -14,14 +14,14 @@ use Rattle.lists.specs.Range.{range}
 use Rattle.lists.proofs.Range.{map-range}
 use Rattle.lists.proofs.Map.{map-getD-range}
 use Rattle.bitset.specs.Entries.{rowOf}
-use Rattle.merge.specs.Subgroup.{Subgroup, smaller}
+use Rattle.joins.specs.Subgroup.{Subgroup, smaller}
+use Rattle.joins.proofs.Doubles.{reads-back}
 use Rattle.merge.specs.Merge.{Merging}
 use Rattle.merge.specs.Tables.{subgroupAt, stillThere, sizeOf, bitsOf, finalSizes, finalBits}
 use Rattle.merge.specs.Engine.{isThere, thereIn, stateOf, Sound, Final}
-use Rattle.merge.proofs.Doubles.{reads-back}
 use Rattle.merge.proofs.There.{small-size}
 use Rattle.bitset.proofs.Rows.{all-rows, same-rows}
-use Rattle.merge.proofs.Kept.{keep-one}
+use Rattle.seeking.proofs.Kept.{keep-one}
 use Rattle.lists.proofs.KeepTests.{keep-map, keep-keep}
 
 -- the subgroup, if it is still there

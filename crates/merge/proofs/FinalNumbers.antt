@@ -9,8 +9,8 @@ use lib.Ieee.{Float}
 use lib.ListN.{length, length-map}
 use Rattle.lists.proofs.Least.{cond-holds}
 use Rattle.lists.proofs.Members.{keep-mem, mem-keep}
-use Rattle.merge.specs.Subgroup.{Subgroup}
-use Rattle.merge.specs.Merge.{Merging, others, united, joined, merged}
+use Rattle.joins.specs.Subgroup.{Subgroup, united}
+use Rattle.merge.specs.Merge.{Merging, others, joined, merged}
 use Rattle.merge.proofs.Invariants.{merged-keeps}
 use Rattle.merge.proofs.NumbersAscend.{become-number}
 

@@ -8,17 +8,17 @@ use lib.Ieee.{Float}
 use Rattle.lists.specs.Keep.{keep}
 use Rattle.lists.specs.Least.{least}
 use Rattle.bitset.specs.Entries.{differing}
-use Rattle.merge.specs.Subgroup.{Subgroup, seeks, smaller, nearer}
+use Rattle.joins.specs.Subgroup.{Subgroup, seeks, smaller, nearer}
+use Rattle.joins.specs.Candidate.{seeking, comesFirst, seekerAt, targetAt}
+use Rattle.joins.specs.declared.candidate.Candidate.{Candidate}
 use Rattle.merge.specs.Merge.{others}
 use Rattle.merge.specs.Tables.{subgroupAt}
-use Rattle.merge.specs.Search.{seeking, comesFirst, seekerAt, targetAt}
 use Rattle.merge.specs.Engine.{listed, thereIn, Standing}
-use Rattle.merge.specs.declared.candidate.Candidate.{Candidate}
 use Rattle.lists.proofs.KeepTests.{keep-map}
-use Rattle.merge.proofs.Least.{least-map}
+use Rattle.seeking.proofs.Least.{least-map}
+use Rattle.seeking.proofs.Removing.{butOne}
 use Rattle.merge.proofs.Next.{seeker-is, target-is, standing}
 use Rattle.merge.proofs.There.{other}
-use Rattle.merge.proofs.Removing.{butOne}
 
 -- what a search keeps of a subgroup that is that far from the seeker
 candidate : (Subgroup → ℕ) → Subgroup → Candidate

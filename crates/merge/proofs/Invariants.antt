@@ -11,7 +11,7 @@ use Rattle.lists.specs.Least.{least}
 use Rattle.lists.proofs.Least.{OfOption, cond-holds, least-holds}
 use Rattle.lists.proofs.Members.{keep-mem}
 use Rattle.whole.specs.Double.{toF64}
-use Rattle.merge.specs.Subgroup.{Subgroup, seeks, smaller, nearer}
+use Rattle.joins.specs.Subgroup.{Subgroup, seeks, smaller, nearer}
 use Rattle.merge.specs.Merge.{Merging, Join, stop, joins, others, joinOf, joinFor, nextJoin, joined, follow, mergeSteps, merged}
 
 -- what joins is there, and joins another that is there

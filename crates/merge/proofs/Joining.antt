@@ -11,13 +11,13 @@ use Rattle.lists.specs.Keep.{keep}
 use Rattle.lists.specs.Range.{range}
 use Rattle.lists.specs.Sum.{sum}
 use Rattle.bitset.specs.Entries.{rowOf, unionOf, empty}
-use Rattle.merge.specs.Subgroup.{Subgroup}
-use Rattle.merge.specs.Merge.{Merging, others, united, joined}
+use Rattle.joins.specs.Subgroup.{Subgroup, united}
+use Rattle.merge.specs.Merge.{Merging, others, joined}
 use Rattle.merge.specs.Tables.{subgroupAt, Mergeable}
 use Rattle.merge.specs.Engine.{isThere, thereIn, stateOf, Sound, Joinable, JoinedTables}
 use Rattle.lists.proofs.SumChanged.{sum-moved}
+use Rattle.seeking.proofs.Kept.{by-number, kept-same}
 use Rattle.merge.proofs.There.{other}
-use Rattle.merge.proofs.Kept.{by-number, kept-same}
 use Rattle.lists.proofs.KeepTests.{keep-map, keep-keep}
 use Rattle.merge.proofs.Uniting.{both, s-in, t-in}
 use Rattle.merge.proofs.Moving.{numbersAfter, sizesAfter, bitsAfter, by-sizes, new-there, size-s, size-other, row-s, row-t, row-away, new-subgroup, same-count, same-sizes, same-bits}

@@ -15,8 +15,8 @@ use Rattle.lists.specs.Keep.{keep, keepHead}
 use Rattle.lists.specs.Least.{least}
 use Rattle.lists.proofs.KeepLength.{keep-le}
 use Rattle.lists.proofs.Keep.{Each, none as no-more, more}
-use Rattle.merge.specs.Subgroup.{Subgroup, seeks, smaller, nearer}
-use Rattle.merge.specs.Merge.{Merging, Join, stop, joins, others, joinOf, joinFor, nextJoin, united, joined, follow, mergeSteps}
+use Rattle.joins.specs.Subgroup.{Subgroup, seeks, smaller, nearer, united}
+use Rattle.merge.specs.Merge.{Merging, Join, stop, joins, others, joinOf, joinFor, nextJoin, joined, follow, mergeSteps}
 use Rattle.merge.proofs.Next.{seeker-is}
 use Rattle.merge.proofs.There.{other}
 

@@ -11,9 +11,9 @@ use lib.ListN.{length, getD}
 use Rattle.lists.specs.Sum.{sum}
 use Rattle.lists.proofs.Map.{getD-map-below}
 use Rattle.bitset.specs.Entries.{rowOf}
-use Rattle.merge.specs.Subgroup.{Subgroup}
-use Rattle.merge.specs.Merge.{Join, stop, joins, nextJoin, united, follow, mergeSteps}
-use Rattle.merge.specs.Search.{vanished}
+use Rattle.joins.specs.Subgroup.{Subgroup, united}
+use Rattle.joins.specs.Held.{vanished}
+use Rattle.merge.specs.Merge.{Join, stop, joins, nextJoin, follow, mergeSteps}
 use Rattle.merge.specs.Engine.{isThere, thereIn, stateOf, Sound, Joinable, JoinedTables, renamed, withSize, withBits}
 use Rattle.merge.proofs.Joins.{joins-are}
 use Rattle.merge.proofs.Next.{can-join}

@@ -19,7 +19,7 @@ use Rattle.whole.specs.Double.{toF64}
 use Rattle.whole.proofs.Larger.{over-lt}
 use Rattle.bitset.specs.Entries.{rowOf}
 use Rattle.bitset.proofs.Words.{row-words}
-use Rattle.merge.specs.Subgroup.{Subgroup, seeks}
+use Rattle.joins.specs.Subgroup.{Subgroup, seeks}
 use Rattle.merge.specs.Merge.{Merging, Join, stop, joins, nextJoin, mergeSteps}
 use Rattle.merge.specs.Tables.{subgroupAt, start, mergeOf, stillThere, finalSizes, finalBits, Mergeable}
 use Rattle.merge.specs.Engine.{isThere, thereIn, stateOf, Sound, Standing, Final}

@@ -1,16 +1,11 @@
 -- The laws of the definitions of specs/.
-pub mod Doubles
-pub mod Least
 pub mod There
-pub mod Kept
-pub mod Looking
 pub mod Uniting
 pub mod Moving
 pub mod Joining
 pub mod Next
-pub mod Removing
 pub mod Listing
-pub mod Blocks
+pub mod Refreshing
 pub mod Finding
 pub mod Ending
 pub mod Turning

@@ -16,14 +16,14 @@ use Rattle.lists.proofs.Members.{range-mem, mem-range, keep-mem, mem-keep}
 use Rattle.lists.proofs.Position.{getD-mem}
 use Rattle.lists.proofs.Range.{length-range, getD-range}
 use Rattle.lists.proofs.Sort.{pairs-kept}
-use Rattle.merge.specs.Subgroup.{Subgroup}
+use Rattle.joins.specs.Subgroup.{Subgroup}
+use Rattle.seeking.specs.Search.{Readable}
+use Rattle.seeking.proofs.Kept.{all-kept}
+use Rattle.seeking.proofs.Removing.{butOne}
 use Rattle.merge.specs.Tables.{Mergeable}
-use Rattle.merge.specs.Search.{Readable}
 use Rattle.merge.specs.Engine.{isThere, listed, Joinable, JoinedTables}
-use Rattle.merge.proofs.Kept.{all-kept}
 use Rattle.merge.proofs.There.{small-size}
 use Rattle.merge.proofs.Joining.{there-now, joined-count}
-use Rattle.merge.proofs.Removing.{butOne}
 
 module _ (numbers : List ℕ) where
   pub listed-distinct : Distinct (listed numbers)

@@ -13,12 +13,11 @@ use Rattle.lists.proofs.Map.{getD-map-below}
 use Rattle.whole.specs.Double.{toF64}
 use Rattle.bitset.specs.Entries.{rowOf, unionOf, empty}
 use Rattle.bitset.specs.declared.entries.BitSet.{BitSet}
-use Rattle.merge.specs.Subgroup.{Subgroup}
-use Rattle.merge.specs.Merge.{united}
+use Rattle.joins.specs.Subgroup.{Subgroup, united}
+use Rattle.joins.specs.Held.{vanished}
+use Rattle.joins.proofs.Doubles.{reads-back}
 use Rattle.merge.specs.Tables.{subgroupAt}
-use Rattle.merge.specs.Search.{vanished}
 use Rattle.merge.specs.Engine.{isThere, Joinable, renamed, withSize, withBits}
-use Rattle.merge.proofs.Doubles.{reads-back}
 use Rattle.bitset.proofs.Rows.{length-with-row, row-same, row-other}
 use Rattle.merge.proofs.There.{in-row}
 use Rattle.merge.proofs.Uniting.{both, s-in, t-in, both-small, united-size}

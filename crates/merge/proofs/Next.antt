@@ -12,12 +12,12 @@ use lib.ListN.{length}
 use Rattle.lists.specs.Keep.{keep}
 use Rattle.lists.specs.Least.{least}
 use Rattle.lists.proofs.Keep.{Each}
-use Rattle.merge.specs.Subgroup.{Subgroup, seeks, smaller, nearer}
+use Rattle.joins.specs.Subgroup.{Subgroup, seeks, smaller, nearer}
+use Rattle.seeking.proofs.Least.{least-each}
+use Rattle.seeking.proofs.Kept.{each-there, kept-passes}
 use Rattle.merge.specs.Merge.{stop, joins, others, joinOf, joinFor, nextJoin}
 use Rattle.merge.specs.Tables.{subgroupAt, Mergeable}
 use Rattle.merge.specs.Engine.{isThere, thereIn, Standing, Joinable}
-use Rattle.merge.proofs.Least.{least-each}
-use Rattle.merge.proofs.Kept.{each-there, kept-passes}
 use Rattle.merge.proofs.There.{other}
 
 -- ---- what the next join is

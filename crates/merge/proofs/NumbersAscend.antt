@@ -8,8 +8,8 @@ use lib.Dec.{eqb}
 use lib.Ieee.{Float}
 use Rattle.lists.proofs.Pairs.{pairs-keep}
 use Rattle.lists.proofs.Sort.{Pairs, pairs-map}
-use Rattle.merge.specs.Subgroup.{Subgroup}
-use Rattle.merge.specs.Merge.{Merging, others, united, joined, merged}
+use Rattle.joins.specs.Subgroup.{Subgroup, united}
+use Rattle.merge.specs.Merge.{Merging, others, joined, merged}
 use Rattle.merge.proofs.Invariants.{merged-keeps}
 
 abbrev pub Lower : Subgroup → Subgroup → Type 0

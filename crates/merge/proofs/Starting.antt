@@ -13,11 +13,11 @@ use Rattle.lists.specs.Keep.{keep}
 use Rattle.lists.specs.Range.{range}
 use Rattle.lists.proofs.Range.{length-range, getD-range}
 use Rattle.whole.specs.Double.{toF64}
-use Rattle.merge.specs.Subgroup.{Subgroup}
+use Rattle.joins.specs.Subgroup.{Subgroup}
+use Rattle.seeking.proofs.Kept.{all-kept}
 use Rattle.merge.specs.Merge.{Merging, mergeSteps, merged}
 use Rattle.merge.specs.Tables.{subgroupAt, start, mergeOf, Mergeable}
 use Rattle.merge.specs.Engine.{isThere, thereIn, stateOf, Sound, Turns, Final}
-use Rattle.merge.proofs.Kept.{all-kept}
 use Rattle.merge.proofs.Ending.{final-of}
 
 -- ---- the definition, by its one test

@@ -13,19 +13,21 @@ use Rattle.lists.specs.Keep.{keep}
 use Rattle.lists.specs.Least.{least}
 use Rattle.lists.proofs.Distinct.{Distinct}
 use Rattle.lists.proofs.Members.{keep-mem}
-use Rattle.merge.specs.Subgroup.{Subgroup, seeks, smaller, nearer}
+use Rattle.joins.specs.Subgroup.{Subgroup, seeks, smaller, nearer}
+use Rattle.joins.specs.Candidate.{seeking, comesFirst, seekerAt, targetAt, Exact}
+use Rattle.seeking.specs.Search.{foundOf, Readable}
+use Rattle.seeking.specs.Seekers.{firstSeeker, Heads, Refreshed}
+use Rattle.seeking.specs.declared.search.Best.{Best}
+use Rattle.seeking.proofs.Removing.{butOne}
+use Rattle.seeking.proofs.Blocks.{first-of-heads}
 use Rattle.merge.specs.Merge.{Merging, Join, stop, joins, others, nextJoin, follow, mergeSteps}
 use Rattle.merge.specs.Tables.{subgroupAt}
-use Rattle.merge.specs.Search.{seeking, comesFirst, seekerAt, targetAt, foundOf, Readable}
-use Rattle.merge.specs.Seekers.{firstSeeker, Exact, Heads, Refreshed}
 use Rattle.merge.specs.Engine.{listed, thereIn, stateOf, Sound, InRow, Standing, Joinable, JoinedTables, makesJoin, Turn}
-use Rattle.merge.specs.declared.search.Best.{Best}
 use Rattle.merge.proofs.There.{in-row, small-size}
 use Rattle.merge.proofs.Next.{no-seeker, no-target, next-join, seeker-is, target-is, standing, can-join}
 use Rattle.merge.proofs.Joining.{joined-state, joined-sound, joined-sizes}
-use Rattle.merge.proofs.Removing.{butOne}
 use Rattle.merge.proofs.Listing.{listed-distinct, listed-in, readable, listed-joined}
-use Rattle.merge.proofs.Blocks.{first-of-heads, first-listed, heads-after}
+use Rattle.merge.proofs.Refreshing.{first-listed, heads-after}
 use Rattle.merge.proofs.Finding.{seeker-found, no-seeker-found, target-found, no-target-found}
 
 found-none : (b : Best) → b .found ≡ false → foundOf b ≡ none

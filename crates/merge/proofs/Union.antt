@@ -10,7 +10,7 @@ use Rattle.lists.specs.Range.{range}
 use Rattle.bitset.specs.Entries.{unionOf, empty}
 use Rattle.bitset.specs.declared.entries.BitSet.{BitSet}
 use Rattle.bitset.proofs.Words.{Words, empty-words, union-words}
-use Rattle.merge.proofs.Kept.{by-number}
+use Rattle.seeking.proofs.Kept.{by-number}
 use Rattle.bitset.proofs.Sets.{union-comm, union-assoc, empty-union}
 
 -- the union of the k sets from number a on

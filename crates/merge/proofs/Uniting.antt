@@ -8,12 +8,11 @@ use lib.Ieee.{binary64, add, inUnsigned, toUnsigned}
 use lib.ListN.{length, getD, length-set}
 use Rattle.whole.specs.Double.{toF64}
 use Rattle.whole.proofs.Exact.{add-exact}
-use Rattle.merge.specs.Subgroup.{Subgroup}
-use Rattle.merge.specs.Merge.{united}
+use Rattle.joins.specs.Subgroup.{Subgroup, united}
+use Rattle.joins.specs.Held.{vanished}
+use Rattle.joins.proofs.Doubles.{is-whole}
 use Rattle.merge.specs.Tables.{subgroupAt}
-use Rattle.merge.specs.Search.{vanished}
 use Rattle.merge.specs.Engine.{Joinable, JoinedTables, renamed, withSize, withBits, InRow}
-use Rattle.merge.proofs.Doubles.{is-whole}
 use Rattle.lists.proofs.SumChanged.{two-of-sum}
 use Rattle.bitset.proofs.Rows.{length-with-row}
 use Rattle.merge.proofs.There.{in-row}

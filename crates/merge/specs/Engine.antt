@@ -10,11 +10,11 @@ use Rattle.lists.specs.Keep.{keep}
 use Rattle.lists.specs.Range.{range}
 use Rattle.bitset.specs.Entries.{empty, rowOf}
 use Rattle.bitset.specs.Rows.{withRow}
-use Rattle.merge.specs.Subgroup.{Subgroup}
-use Rattle.merge.specs.Merge.{Merging, Join, stop, joins, nextJoin, follow, united, mergeSteps}
+use Rattle.joins.specs.Subgroup.{Subgroup, united}
+use Rattle.joins.specs.Held.{vanished}
+use Rattle.seeking.specs.Seekers.{Heads}
+use Rattle.merge.specs.Merge.{Merging, Join, stop, joins, nextJoin, follow, mergeSteps}
 use Rattle.merge.specs.Tables.{subgroupAt, finalSizes, finalBits, Mergeable}
-use Rattle.merge.specs.Search.{vanished}
-use Rattle.merge.specs.Seekers.{Heads}
 
 abbrev pub isThere : List ℕ → ℕ → Bool
 isThere numbers i = eqb (getD numbers i 0) i

@@ -4,13 +4,12 @@ use mathlib.Core.Bool.{not, _&&_, cond}
 use mathlib.Core.List.{List, map}
 use mathlib.Core.Option.{Option, none, some}
 use lib.Dec.{ltb, eqb}
-use lib.Ieee.{Float, binary64, lt, add}
+use lib.Ieee.{Float, lt}
 use lib.ListN.{length}
 use Rattle.lists.specs.Keep.{keep}
 use Rattle.lists.specs.Least.{least}
 use Rattle.whole.specs.Double.{toF64}
-use Rattle.bitset.specs.Entries.{unionOf}
-use Rattle.merge.specs.Subgroup.{Subgroup, seeks, smaller, nearer}
+use Rattle.joins.specs.Subgroup.{Subgroup, seeks, smaller, nearer, united}
 
 -- the subgroups that are still there, and for each number on entry the number that it has now
 pub record Merging : Type 0 where
@@ -40,11 +39,6 @@ joinFor there (some s) = joinOf s (least (nearer s) (others s there))
 unfoldable pub nextJoin : Float → List Subgroup → Join
 unfolding least keep seeks smaller nearer others
 nextJoin threshold there = joinFor there (least smaller (keep (seeks threshold) there))
-
--- "The joined one keeps the target's number; sizes add, bits unite."
-unfoldable pub united : Subgroup → Subgroup → Subgroup
-unfolding add unionOf
-united s t = record { number = t .number; size = add binary64 (t .size) (s .size); bits = unionOf (t .bits) (s .bits) }
 
 -- s has joined t: s vanishes, t is united with it, and whatever had the number of s has that of t
 unfoldable pub joined : Subgroup → Subgroup → Merging → Merging

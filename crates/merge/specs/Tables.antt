@@ -13,7 +13,7 @@ use Rattle.lists.specs.Sum.{sum}
 use Rattle.whole.specs.Double.{toF64}
 use Rattle.bitset.specs.Entries.{empty, rowOf}
 use Rattle.bitset.specs.declared.entries.BitSet.{BitSet}
-use Rattle.merge.specs.Subgroup.{Subgroup, smaller}
+use Rattle.joins.specs.Subgroup.{Subgroup, smaller}
 use Rattle.merge.specs.Merge.{Merging, merged}
 
 -- subgroup i of the tables

@@ -1,21 +1,21 @@
 // The engine: joins one after the other, each found by looking at the heads of all blocks for the seeker, and through all subgroups that are still
 // there for its target.
-use crate::heads::fill_heads;
-use crate::heads::refresh;
-use crate::list::remove;
-use crate::search::find_seeker;
-use crate::search::find_target;
-use crate::subgroup::Subgroup;
 use crate::tables::rename;
 use crate::tables::store;
 use crate::tables::subgroup_at;
+use joins::subgroup::Subgroup;
+use seeking::heads::fill_heads;
+use seeking::heads::refresh;
+use seeking::list::remove;
+use seeking::search::find_seeker;
+use seeking::search::find_target;
 ghost use mathlib.Core.Path.{_≡_};
 ghost use Prim.Native.Nat.{_+_, _*_, _≤_, _<_};
 ghost use lib.ListN.{length};
 ghost use Rattle.lists.specs.Range.{range};
+ghost use Rattle.joins.specs.Held.{held};
+ghost use Rattle.seeking.specs.Seekers.{Heads};
 ghost use Rattle.merge.specs.Tables.{Mergeable, mergeOf};
-ghost use Rattle.merge.specs.Search.{held};
-ghost use Rattle.merge.specs.Seekers.{Heads};
 ghost use Rattle.merge.specs.Engine.{listed, Sound, Joinable, JoinedTables, Turn, Turns, Final};
 
 // The seeker joins the target: whatever had its number has the target's, and its row is left as zeros.

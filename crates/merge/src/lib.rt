@@ -1,11 +1,6 @@
 // The merge of small subgroups of an entries-aware set, join by join.
-pub mod candidate;
 pub mod conditions;
 pub mod engine;
-pub mod heads;
-pub mod list;
-pub mod search;
-pub mod subgroup;
 pub mod tables;
 
 use lists::copy::copy_numbers;

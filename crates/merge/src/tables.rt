@@ -1,26 +1,17 @@
 // Subgroups in tables: a size and four words of entry bits a row.
-use crate::subgroup::Subgroup;
 use bitset::table::row;
 use bitset::table::store_row;
+use joins::sizes::size_at;
+use joins::subgroup::Subgroup;
 ghost use mathlib.Core.Path.{_≡_};
 ghost use mathlib.Core.Bool.{true};
 ghost use mathlib.Core.List.{map};
-ghost use Prim.Native.Nat.{_≤_, _<_, _^_};
-ghost use lib.ListN.{length, getD};
+ghost use Prim.Native.Nat.{_≤_, _^_};
+ghost use lib.ListN.{getD};
 ghost use lib.Ieee.{binary64, inUnsigned};
-ghost use Rattle.whole.specs.Double.{toF64};
+ghost use Rattle.joins.specs.Held.{held};
 ghost use Rattle.merge.specs.Tables.{subgroupAt};
-ghost use Rattle.merge.specs.Search.{held};
 ghost use Rattle.merge.specs.Engine.{renamed, withSize, withBits, InRow};
-
-// The size of row i as a double. It is at most 2^53, so that it is an i64 too, which becomes a double in one step.
-pub fn size_at(sizes: &[u64], i: usize) -> f64
-    requires { ⌜ i < length (now sizes) ⌝ }
-    requires { ⌜ getD (now sizes) i 0 ≤ 2 ^ 53 ⌝ }
-    ensures { λ r. ⌜ r ≡ toF64 (getD (now (sizes .entry)) i 0) ⌝ }
-{
-    sizes[i] as i64 as f64
-}
 
 // Subgroup i, its size as a double.
 pub fn subgroup_at(sizes: &[u64], bits: &[u64], i: usize) -> Subgroup

@@ -8,7 +8,7 @@ use lib.ListN.{length}
 use Rattle.lists.specs.Range.{range}
 use Rattle.lists.proofs.Sort.{none, more}
 use Rattle.bitset.specs.declared.entries.BitSet.{BitSet}
-use Rattle.merge.specs.Subgroup.{Subgroup}
+use Rattle.joins.specs.Subgroup.{Subgroup}
 use Rattle.merge.proofs.NumbersAscend.{Ascending, merged-ascends}
 use Rattle.options.specs.declared.Settings.{Settings}
 use Rattle.grouping.specs.Tree.{Tree}

@@ -18,7 +18,7 @@ use Rattle.whole.specs.Double.{toF64, sumF64}
 use Rattle.whole.proofs.Exact.{sum-exact}
 use Rattle.bitset.specs.Entries.{empty, rowOf}
 use Rattle.bitset.specs.declared.entries.BitSet.{BitSet}
-use Rattle.merge.specs.Subgroup.{Subgroup}
+use Rattle.joins.specs.Subgroup.{Subgroup}
 use Rattle.merge.specs.Merge.{merged}
 use Rattle.options.specs.declared.Settings.{Settings}
 use Rattle.grouping.specs.Given.{Given}

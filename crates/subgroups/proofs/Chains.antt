@@ -13,7 +13,7 @@ use Rattle.bitset.specs.Entries.{rowOf}
 use Rattle.bitset.specs.declared.entries.BitSet.{BitSet}
 use Rattle.grouping.specs.Subgroups.{sameBits, kindNumber}
 use Rattle.bitset.specs.Rows.{withRow}
-use Rattle.merge.proofs.Kept.{by-number}
+use Rattle.seeking.proofs.Kept.{by-number}
 use Rattle.subgroups.specs.Kinds.{rowsOf}
 use Rattle.subgroups.specs.Finding.{KindFits}
 use Rattle.subgroups.specs.Buckets.{bucketCount, bucketOf, bucketAt, LastIn, Chained, ChainRoom, Pushed}

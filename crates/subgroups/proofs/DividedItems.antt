@@ -12,7 +12,7 @@ use Rattle.lists.proofs.KeepTests.{keep-same, keep-map}
 use Rattle.lists.proofs.Members.{map-same}
 use Rattle.bitset.specs.Entries.{rowOf}
 use Rattle.bitset.specs.declared.entries.BitSet.{BitSet}
-use Rattle.merge.specs.Subgroup.{Subgroup}
+use Rattle.joins.specs.Subgroup.{Subgroup}
 use Rattle.merge.specs.Merge.{Merging}
 use Rattle.merge.specs.Tables.{subgroupAt, finalSizes}
 use Rattle.options.specs.declared.Settings.{Settings}

@@ -19,7 +19,7 @@ use Rattle.bitset.specs.Entries.{rowOf}
 use Rattle.bitset.specs.declared.entries.BitSet.{BitSet}
 use Rattle.merge.specs.Engine.{InRow}
 use Rattle.bitset.specs.Rows.{withRow}
-use Rattle.merge.proofs.Doubles.{zero-double, is-whole, reads-back}
+use Rattle.joins.proofs.Doubles.{zero-double, is-whole, reads-back}
 use Rattle.bitset.proofs.Rows.{row-same, row-other}
 use Rattle.grouping.specs.Subgroups.{sameBits, kindNumber}
 use Rattle.subgroups.specs.Kinds.{rowsOf, hasKind}

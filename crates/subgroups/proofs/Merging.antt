@@ -19,7 +19,7 @@ use Rattle.lists.proofs.Range.{length-range, getD-range, map-range}
 use Rattle.whole.specs.Double.{toF64}
 use Rattle.bitset.specs.Entries.{empty, rowOf}
 use Rattle.bitset.specs.declared.entries.BitSet.{BitSet}
-use Rattle.merge.specs.Subgroup.{Subgroup}
+use Rattle.joins.specs.Subgroup.{Subgroup}
 use Rattle.merge.specs.Merge.{Merging, merged}
 use Rattle.merge.specs.Tables.{subgroupAt, start, mergeOf, finalSizes, Mergeable}
 use Rattle.merge.specs.Engine.{stateOf, Final}

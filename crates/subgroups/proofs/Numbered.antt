@@ -21,7 +21,7 @@ use Rattle.lists.proofs.Range.{length-range}
 use Rattle.lists.proofs.Sort.{keys-same, pairs-kept}
 use Rattle.bitset.specs.Entries.{empty, rowOf}
 use Rattle.bitset.specs.declared.entries.BitSet.{BitSet}
-use Rattle.merge.specs.Subgroup.{Subgroup}
+use Rattle.joins.specs.Subgroup.{Subgroup}
 use Rattle.merge.specs.Merge.{Merging}
 use Rattle.merge.specs.Tables.{subgroupAt, finalSizes}
 use Rattle.merge.specs.Engine.{isThere, thereIn}

@@ -10,7 +10,7 @@ use Rattle.lists.specs.Range.{range}
 use Rattle.lists.specs.Sort.{sortBy}
 use Rattle.whole.specs.Double.{toF64}
 use Rattle.bitset.specs.Entries.{empty}
-use Rattle.merge.specs.Subgroup.{Subgroup}
+use Rattle.joins.specs.Subgroup.{Subgroup}
 use Rattle.merge.specs.Merge.{Merging, merged}
 use Rattle.merge.specs.Tables.{finalSizes}
 use Rattle.merge.specs.Engine.{stateOf}

@@ -1,7 +1,7 @@
 // The kinds of entry bits of a set, numbered by first appearance.
 use bitset::entries::BitSet;
 use bitset::table::row;
-use merge::subgroup::Subgroup;
+use joins::subgroup::Subgroup;
 use merge::tables::store;
 ghost use mathlib.Core.Path.{_≡_};
 ghost use Prim.Native.Nat.{_+_, _*_, _^_, _≤_, _<_};

@@ -1,6 +1,6 @@
 -- The two subgroups written are those of the join, and each has a row and a whole size.
 use borrow.Author.Needs.{needs}
-use Rattle.merge.specs.Search.{held}
+use Rattle.joins.specs.Held.{held}
 use Rattle.merge.proofs.Uniting.{united-fits, vanished-fits, stored}
 use Rattle.merge.proofs.engine.join.Statement.{statement}
 use Rattle.merge.proofs.engine.join.Tie as tie

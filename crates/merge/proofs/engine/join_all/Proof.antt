@@ -7,8 +7,8 @@ use borrow.Author.Tests.{not-true, not-false}
 use lib.ListN.{length, take}
 use lib.Seq.{take-length, length-take-le, length-front}
 use Rattle.lists.proofs.Range.{length-range}
+use Rattle.seeking.specs.Seekers.{Heads}
 use Rattle.merge.specs.Merge.{mergeSteps}
-use Rattle.merge.specs.Seekers.{Heads}
 use Rattle.merge.specs.Engine.{listed, stateOf, Sound, Turn}
 use Rattle.merge.proofs.Listing.{listed-all}
 use Rattle.merge.proofs.Turning.{sizes-fit-all, turn-more, turn-last, list-less}

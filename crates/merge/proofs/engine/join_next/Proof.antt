@@ -7,7 +7,7 @@ use borrow.Author.Tests.{not-true, not-false}
 use lib.ListN.{length, take}
 use lib.Seq.{length-take-le}
 use Rattle.lists.proofs.KeepLength.{mem-length}
-use Rattle.merge.specs.Search.{held}
+use Rattle.joins.specs.Held.{held}
 use Rattle.merge.proofs.Turning.{reads-heads, turn-without-seeker, seeker-row, seeker-listed, reads-left, turn-without-target, target-row}
 use Rattle.merge.proofs.Turning.{join-fits, refresh-fits, turn-with-join}
 use borrow.Author.Needs.{needs}

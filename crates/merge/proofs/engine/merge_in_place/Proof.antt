@@ -4,7 +4,7 @@ use native.Mathlib.Omega.{arith}
 use lib.Ieee.{lt}
 use lib.Seq.{length-take-le}
 use Rattle.lists.specs.Range.{range}
-use Rattle.merge.proofs.Doubles.{zero-double}
+use Rattle.joins.proofs.Doubles.{zero-double}
 use Rattle.merge.proofs.Starting.{start-sound, done-too-few, done-no-threshold, done-turns}
 use borrow.Author.Needs.{needs}
 use Rattle.merge.proofs.engine.merge_in_place.Statement.{statement}

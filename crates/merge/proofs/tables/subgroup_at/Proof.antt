@@ -2,7 +2,7 @@
 use mathlib.Core.Path.{ap₂}
 use lib.Ieee.{Float}
 use Rattle.bitset.specs.declared.entries.BitSet.{BitSet}
-use Rattle.merge.specs.Subgroup.{Subgroup}
+use Rattle.joins.specs.Subgroup.{Subgroup}
 use Rattle.merge.specs.Tables.{subgroupAt}
 use borrow.Author.Needs.{needs}
 use Rattle.merge.proofs.tables.subgroup_at.Statement.{statement}

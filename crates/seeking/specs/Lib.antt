@@ -1,0 +1,3 @@
+-- The search for the two subgroups that join.
+pub mod Search
+pub mod Seekers

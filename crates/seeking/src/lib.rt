@@ -1,0 +1,4 @@
+// The two subgroups that join next: which one seeks, which is the nearest to it, and the list of those still there.
+pub mod heads;
+pub mod list;
+pub mod search;
