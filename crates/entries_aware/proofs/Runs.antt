@@ -31,8 +31,8 @@ use Rattle.running.specs.State.{Advance, Begun}
 use Rattle.running.specs.Turns.{SetTurned}
 use Rattle.running.proofs.Advancing.{advance-none, advance-item, begun-next, begun-number, begun-place}
 use Rattle.running.proofs.ItemTurn.{turn-entries, turn-ready, turn-advances}
+use Rattle.matching.specs.Matched.{RunEnd}
 use Rattle.sets.specs.Built.{startAt, startsOf}
-use Rattle.sets.specs.Matched.{RunEnd}
 use Rattle.subgroups.specs.Kinds.{kindsIn}
 use Rattle.subgroups.specs.Items.{subgroupsIn, itemNumbered}
 use Rattle.subgroups.proofs.Numbered.{at-most}

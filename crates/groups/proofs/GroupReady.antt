@@ -13,7 +13,7 @@ use Rattle.grouping.specs.Tree.{placesOf}
 use Rattle.conditions.proofs.CountsLeft.{counts-passed}
 use Rattle.conditions.proofs.TablesLeft.{tables-passed}
 use Rattle.settling.specs.Modules.{Passed}
-use Rattle.sets.specs.Matched.{Matching, keysOf}
+use Rattle.matching.specs.Matched.{Matching, keysOf}
 use Rattle.sets.specs.OfBuild.{matchingOf, matchedOf}
 
 -- what a group is matched by, part by part

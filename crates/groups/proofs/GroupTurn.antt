@@ -14,10 +14,10 @@ use Rattle.settling.specs.Traversal.{namesOf, afterName, afterGroup}
 use Rattle.emitting.specs.Emitted.{Work}
 use Rattle.items.specs.Turn.{Tables}
 use Rattle.lists.specs.Area.{Holds}
-use Rattle.sets.specs.Matched.{Matching, keysOf, Matchable}
+use Rattle.matching.specs.Matched.{Matching, keysOf, Matchable}
+use Rattle.matching.proofs.MatchedKeys.{keys-few}
 use Rattle.sets.specs.OfBuild.{matchingOf}
 use Rattle.sets.proofs.FromPassed.{places-few}
-use Rattle.sets.proofs.MatchedKeys.{keys-few}
 use Rattle.sets.proofs.Ready as ready
 use Rattle.running.specs.Fits.{ItemFits, Walking}
 use Rattle.running.specs.State.{Advance}

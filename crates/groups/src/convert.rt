@@ -1,10 +1,10 @@
 // Each group's matched modules are found when its turn comes, and its sets turned into chunks.
 use index::ChunkIdx;
 use lists::copy::copy_bytes;
+use matching::matched::match_group;
 use names::convert_names;
 use options::Settings;
 use sets::gathered::store_places;
-use sets::matched::match_group;
 ghost use mathlib.Core.Path.{_≡_};
 ghost use Prim.Native.Nat.{_*_, _≤_};
 ghost use lib.ListN.{length};

@@ -20,10 +20,10 @@ use Rattle.grouping.specs.Tree.{placesOf}
 use Rattle.grouping.specs.Conditions.{badAnswer}
 use Rattle.grouping_laws.proofs.Places.{places-mem}
 use Rattle.settling.specs.Modules.{Passed, moduleAt}
-use Rattle.sets.specs.Matched.{takes, takesModule, nameOf, keyAt, takingPart, keysOf}
+use Rattle.matching.specs.Matched.{takes, takesModule, nameOf, keyAt, takingPart, keysOf}
+use Rattle.matching.proofs.MatchedKeys.{taking-in, keys-few}
 use Rattle.sets.specs.OfBuild.{matchingOf, answersOf, matchedOf}
 use Rattle.sets.proofs.FromPassed.{places-few}
-use Rattle.sets.proofs.MatchedKeys.{taking-in, keys-few}
 use Rattle.sets.proofs.TakesAt.{answer-at}
 
 module _ (b : Given) (ok : Passed b) (g : ℕ) (h : g < b .variant .g) where

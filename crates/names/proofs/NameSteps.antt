@@ -32,8 +32,8 @@ use Rattle.emitting.proofs.Chunk.{SameLengths, same-lengths, lengths-kept}
 use Rattle.items.specs.Turn.{Tables}
 use Rattle.running.specs.Fits.{ItemFits, Walking}
 use Rattle.running.specs.State.{Advance, Begun}
+use Rattle.matching.specs.Matched.{RunEnd}
 use Rattle.sets.specs.Built.{SetBuilt}
-use Rattle.sets.specs.Matched.{RunEnd}
 use Rattle.sets.proofs.NamesMatched.{names-matched}
 use Rattle.names.specs.Closed.{closes, liveBy, closedAfter, Closed}
 use Rattle.names.specs.Turn.{SetOffered, SetTaken, GroupFits, NamesTurning, NamesTurned}

@@ -33,9 +33,9 @@ use Rattle.linking.proofs.Untaken.{places-count}
 use Rattle.running.specs.Fits.{Walking}
 use Rattle.running.proofs.Tests.{passed-sound}
 use Rattle.items.specs.Turn.{untaken}
+use Rattle.matching.specs.Matched.{keysOf, RunEnd}
 use Rattle.sets.specs.Built.{startAt, SetReady, SetBuilt}
 use Rattle.sets.specs.Gathered.{markedIn, PlacesAre}
-use Rattle.sets.specs.Matched.{keysOf, RunEnd}
 use Rattle.sets.specs.OfBuild.{matchingOf, matchedOf, runOf}
 use Rattle.sets.proofs.FromPassed.{flag-bytes, record-tables}
 use Rattle.sets.proofs.NamesMatched.{run-rises}

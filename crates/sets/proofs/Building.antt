@@ -4,16 +4,13 @@ use mathlib.Core.List.{List, _++_}
 use mathlib.Core.Path.{_≡_, sym, ap, _∙_, subst}
 use native.Mathlib.Omega.{arith}
 use lib.ListN.{length, getD, take, drop, length-map}
-use lib.Seq.{take-at, length-front}
+use lib.Seq.{length-front}
 use Rattle.lists.specs.Packed.{itemOf}
 use Rattle.lists.proofs.Map.{getD-map-below}
 use Rattle.lists.specs.Area.{Holds}
+use Rattle.matching.proofs.Writing.{front}
 use Rattle.sets.specs.Built.{startAt, startsOf, Placed}
 use Rattle.sets.specs.Captured.{StartsIn}
-
--- a list of n elements that was written to the front of an area
-pub front : {l m : List ℕ} (rest : List ℕ) (n : ℕ) → l ≡ m → length m ≡ n → take n (l ++ rest) ≡ m
-front {l} rest n e h = take-at l rest n (ap length e ∙ h) ∙ e
 
 module _ (order run : List ℕ) where
   pub starts-length : length (startsOf order run) ≡ length run

@@ -28,7 +28,7 @@ use Rattle.grouping.specs.Given.{Given, isListed, isEligible}
 use Rattle.grouping.specs.Tree.{placesOf, runsBefore}
 use Rattle.grouping.specs.Conditions.{countAbove, badModuleTable, badRecordTable, badGroupTable, badTable, badTotal, badAnswer}
 use Rattle.settling.specs.Modules.{Passed}
-use Rattle.sets.specs.Matched.{Readable}
+use Rattle.matching.specs.Matched.{Readable}
 use Rattle.sets.specs.OfBuild.{answersOf, matchingOf}
 use Rattle.sets.proofs.TakesAt.{answer-at}
 

@@ -7,9 +7,9 @@ use native.Mathlib.Omega.{arith}
 use lib.ListN.{length, getD, take, drop, set, length-take}
 use lib.Seq.{take-append-le, drop-drop, drop-set-lt, getD-drop}
 use Rattle.lists.specs.Area.{Holds}
+use Rattle.matching.proofs.Writing.{Writing, none-written, one-written, none-stored}
 use Rattle.sets.specs.Gathered.{markedIn}
 use Rattle.sets.proofs.Marking.{marked-none, marked-in, marked-out, marked-all}
-use Rattle.sets.proofs.Writing.{Writing, none-written, one-written, none-stored}
 
 -- with the first i of the list looked at
 pub record Leaving (marks list₀ : List ℕ) (i count : ℕ) (list : List ℕ) : Type 0 where

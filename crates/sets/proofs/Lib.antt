@@ -1,6 +1,4 @@
 -- The laws of the definitions of specs/.
-pub mod Writing
-pub mod Gathering
 pub mod Marking
 pub mod Leaving
 pub mod Placing
@@ -8,8 +6,6 @@ pub mod Counting
 pub mod Starts
 pub mod Building
 pub mod FoundAlone
-pub mod ByName
-pub mod MatchedKeys
 pub mod TakesAt
 pub mod FromPassed
 pub mod Ready

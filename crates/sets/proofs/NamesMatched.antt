@@ -30,11 +30,11 @@ use Rattle.grouping.specs.Sets.{takesPart, named}
 use Rattle.grouping_laws.proofs.AtPlaces.{tree-length}
 use Rattle.settling.specs.Modules.{Passed, moduleAt, modulesAt}
 use Rattle.settling.specs.Traversal.{namesOf}
+use Rattle.matching.specs.Matched.{takesModule, nameOf, keyAt, takingPart, keysOf}
+use Rattle.matching.proofs.MatchedKeys.{taking-in}
 use Rattle.sets.specs.Built.{startsOf}
-use Rattle.sets.specs.Matched.{takesModule, nameOf, keyAt, takingPart, keysOf}
 use Rattle.sets.specs.OfBuild.{matchingOf, matchedOf, runOf, takingPlaces}
 use Rattle.sets.proofs.FromPassed.{places-few}
-use Rattle.sets.proofs.MatchedKeys.{taking-in}
 use Rattle.sets.proofs.TakesAt.{takes-at}
 
 -- a name has a set where some place takes part with it

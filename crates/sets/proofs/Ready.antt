@@ -7,7 +7,7 @@ use Rattle.grouping.specs.Given.{Given}
 use Rattle.grouping.specs.Tree.{placesOf}
 use Rattle.grouping_laws.proofs.Places.{places-mem}
 use Rattle.settling.specs.Modules.{Passed, moduleAt}
-use Rattle.sets.specs.Matched.{Matchable}
+use Rattle.matching.specs.Matched.{Matchable}
 use Rattle.sets.specs.OfBuild.{matchingOf}
 use Rattle.sets.proofs.FromPassed.{places-few, readable}
 

@@ -17,7 +17,7 @@ use Rattle.grouping.specs.Sets.{takesPart}
 use Rattle.grouping_laws.proofs.AtPlaces.{tree-length, start-at}
 use Rattle.grouping_laws.proofs.Places.{places-mem}
 use Rattle.settling.specs.Modules.{moduleAt}
-use Rattle.sets.specs.Matched.{takes, takesModule, nameOf}
+use Rattle.matching.specs.Matched.{takes, takesModule, nameOf}
 use Rattle.sets.specs.OfBuild.{answersOf, matchingOf}
 
 -- an answer is 2 and a name just where it is at least 2 and the name is what is left

@@ -1,6 +1,4 @@
--- Step 1 for one group: the modules that take part, by name, and the set of each name in execution order.
-pub mod Matched
-pub mod ByName
+-- Step 1 for one group: the set of each name in execution order, and what a group of a build reads.
 pub mod Captured
 pub mod Gathered
 pub mod Built

@@ -11,7 +11,7 @@ use Rattle.grouping.specs.Given.{Given}
 use Rattle.grouping.specs.Settings.{settingsOf}
 use Rattle.grouping.specs.Tree.{placesOf, treeOf, memberAt}
 use Rattle.grouping.specs.Sets.{takesPart}
-use Rattle.sets.specs.Matched.{Matching, keysOf}
+use Rattle.matching.specs.Matched.{Matching, keysOf}
 
 -- "one u32 for each group and module, group by group": those of group g
 abbrev pub answersOf : Given → ℕ → List ℕ

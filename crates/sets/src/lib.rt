@@ -1,6 +1,4 @@
-// Step 1 for one group: the modules that take part, by name, and the set of each name in execution order.
+// Step 1 for one group: the set of each name in execution order, by a walk from all its starts.
 pub mod built;
-pub mod by_name;
 pub mod captured;
 pub mod gathered;
-pub mod matched;

@@ -3,8 +3,8 @@ use Prim.Native.Nat.{_-_, _≤_, _<_}
 use mathlib.Core.Path.{sym, _∙_}
 use native.Mathlib.Omega.{arith}
 use lib.ListN.{length, getD, take}
+use Rattle.matching.proofs.Writing.{Writing, none-written, one-written, map-take-more, all-written}
 use Rattle.sets.specs.Built.{startAt, startsOf}
-use Rattle.sets.proofs.Writing.{Writing, none-written, one-written, map-take-more, all-written}
 use Rattle.sets.proofs.built.store_starts.Statement.{statement}
 use Rattle.sets.proofs.built.store_starts.Tie as tie
 

@@ -5,9 +5,9 @@ use mathlib.Core.Logic.{⊎-elim}
 use native.Mathlib.Omega.{arith}
 use mir.Facts.{fits-32-64}
 use lib.ListN.{length, getD, take}
+use Rattle.matching.proofs.Writing.{Writing, none-written, one-written, none-stored, none-until}
 use Rattle.sets.specs.Gathered.{markedIn}
 use Rattle.sets.proofs.Marking.{marked-none, marked-in, marked-out, marked-all, marked-block}
-use Rattle.sets.proofs.Writing.{Writing, none-written, one-written, none-stored, none-until}
 use Rattle.sets.proofs.gathered.gather_marked.Statement.{statement}
 use Rattle.sets.proofs.gathered.gather_marked.Tie as tie
 

@@ -1,0 +1,3 @@
+// Step 1 for one group: the modules that take part, by name.
+pub mod by_name;
+pub mod matched;
