@@ -24,7 +24,9 @@ use Rattle.settling.specs.Settled.{settled}
 use Rattle.emitting.specs.Emitted.{Work, HasEntry}
 use Rattle.emitting.specs.declared.emit.Head.{Head}
 use Rattle.emitting.proofs.Chunk.{SameLengths, same-lengths, lengths-kept}
-use Rattle.items.specs.Turn.{Tables, untaken, emittedFrom, ItemReady, Converted}
+use Rattle.left.specs.Untaken.{untaken}
+use Rattle.pieces.specs.Chunks.{Converted}
+use Rattle.items.specs.Turn.{Tables, emittedFrom, ItemReady}
 use Rattle.items.specs.declared.convert.Limits.{Limits}
 use Rattle.running.specs.Fits.{ItemFits, HeadOf}
 use Rattle.running.specs.State.{Advance, Begun}

@@ -10,7 +10,8 @@ use Rattle.whole.specs.Double.{sumF64}
 use Rattle.cut.specs.Order.{sizesIn}
 use Rattle.emitting.specs.Emitted.{Work, Emission, withChunks}
 use Rattle.emitting.specs.declared.emit.Head.{Head}
-use Rattle.items.specs.Turn.{Tables, emittedWithin, emittedFrom, Converted}
+use Rattle.pieces.specs.Chunks.{Converted}
+use Rattle.items.specs.Turn.{Tables, emittedWithin, emittedFrom}
 use Rattle.items.specs.declared.convert.Limits.{Limits}
 
 pub none-converted : (bits : List ℕ) (number at : ℕ) (w : Work) {es : List Emission} → es ≡ [] → Converted es bits number at 0 w w

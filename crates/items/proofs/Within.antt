@@ -12,7 +12,8 @@ use Rattle.whole.specs.Double.{sumF64}
 use Rattle.cut.specs.Order.{sizesIn}
 use Rattle.emitting.specs.Emitted.{Work, Emission, withChunk, withChunks, Room}
 use Rattle.emitting.specs.declared.emit.Head.{Head}
-use Rattle.items.specs.Turn.{Tables, chunkOf, overLimit, emittedOver, emittedWithin, ItemReady, Converted}
+use Rattle.pieces.specs.Chunks.{chunkOf, Converted}
+use Rattle.items.specs.Turn.{Tables, overLimit, emittedOver, emittedWithin, ItemReady}
 
 module _ {t : Tables} {bits modules : List ℕ} {w : Work} {number at : ℕ} (r : ItemReady t bits modules w number at) (some : 1 ≤ length modules) where
   pub whole-room : Room bits modules w at

@@ -1,2 +1,2 @@
--- One work item on its turn, in modules: what is left of it, and the chunks that it ends as.
+-- One work item on its turn, in modules: the chunks that what is left of it ends as.
 pub mod Turn

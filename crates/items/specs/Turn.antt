@@ -1,27 +1,20 @@
--- What becomes of an item on its turn, as the tables say it: the modules that no chunk has taken, and the chunks that they are emitted as.
+-- What becomes of an item on its turn, as the tables say it: the chunks that the modules that no chunk has taken are emitted as.
 use Prim.Native.Nat.{ℕ, _+_, _^_, _≤_, _<_}
 use mathlib.Core.Bool.{Bool, true, false}
-use mathlib.Core.List.{List, [], _∷_, map}
+use mathlib.Core.List.{List, [], _∷_}
 use mathlib.Core.Path.{_≡_}
-use lib.Dec.{eqb}
 use lib.Ieee.{Float, lt}
-use lib.ListN.{length, getD, take}
-use Rattle.lists.specs.Keep.{keep}
+use lib.ListN.{length}
 use Rattle.whole.specs.Double.{sumF64}
 use Rattle.limit.specs.declared.Limit.{Limit}
 use Rattle.limit.specs.declared.Limit.the-variants.{Absent, Given}
 use Rattle.cut.specs.Order.{sizesIn, Cuttable}
 use Rattle.settling.specs.Pieces.{piecesOf}
 use Rattle.oversized.specs.InOrder.{byRank, Ranked}
-use Rattle.oversized.specs.Cutting.{cuttingOf, Pending}
 use Rattle.emitting.specs.declared.emit.Head.{Head}
-use Rattle.emitting.specs.Emitted.{Work, Emission, withChunks, Room, HasEntry}
+use Rattle.emitting.specs.Emitted.{Work, Emission, Room}
+use Rattle.pieces.specs.Chunks.{chunkOf, chunksOf}
 use Rattle.items.specs.declared.convert.Limits.{Limits}
-
--- the modules of a list that no chunk has taken
-unfoldable pub untaken : List ℕ → List ℕ → List ℕ
-unfolding keep
-untaken chunk-of list = keep (λ m. eqb (getD chunk-of m 0) 0) list
 
 -- the tables that an item is read by: ids, sizes and ranks of the modules
 pub record Tables : Type 0 where
@@ -29,14 +22,6 @@ pub record Tables : Type 0 where
   pub offsets : List ℕ
   pub sizes : List ℕ
   pub rank : List ℕ
-
--- a chunk of some modules
-abbrev pub chunkOf : List ℕ → Head → List ℕ → Emission
-chunkOf sizes head modules = record { head = head; modules = modules; size = sumF64 (sizesIn sizes modules) }
-
--- a chunk for each piece of modules in id order
-abbrev pub chunksOf : List ℕ → List ℕ → List ℕ → Head → Float → Float → List ℕ → List Emission
-chunksOf bytes offsets sizes head minimum maximum order = map (chunkOf sizes head) (piecesOf (cuttingOf bytes offsets sizes minimum maximum) order)
 
 -- the pieces of modules above the maximum
 unfoldable pub inPieces : Tables → Head → Float → Float → List ℕ → List Emission
@@ -71,17 +56,6 @@ unfolding sumF64 lt inPieces
 emittedFrom t head l [] = []
 emittedFrom t head l (m ∷ modules) = emittedUnless (lt (sumF64 (sizesIn (t .sizes) (m ∷ modules))) (l .minimum)) t head l (m ∷ modules)
 
--- each module of a list has an entry in the table of chunk numbers, and there is room for all of them
-pub record Listed (chunk-of list members : List ℕ) : Type 0 where
-  pub numbered : HasEntry chunk-of list
-  pub space : length list ≤ length members
-
--- what is left of a list, in the first `count` entries of an area; what lies past them is free
-pub record Kept (left : List ℕ) (count : ℕ) (before after : List ℕ) : Type 0 where
-  pub number : count ≡ length left
-  pub written : take count after ≡ left
-  pub long : length after ≡ length before
-
 -- What an item asks: its modules, at most 4,096, have entries in all tables, sizes that add exactly and ranks, and there are a number and room for
 -- a record for each of them.
 pub record ItemReady (t : Tables) (bits modules : List ℕ) (w : Work) (number at : ℕ) : Type 0 where
@@ -95,14 +69,3 @@ pub record ItemReady (t : Tables) (bits modules : List ℕ) (w : Work) (number a
 pub record Totalled (sizes modules : List ℕ) (total : Float) : Type 0 where
   pub some : 1 ≤ length modules
   pub whole : total ≡ sumF64 (sizesIn sizes modules)
-
--- what modules in id order ask that are emitted in pieces: they can be cut, and there are a number and room for a record for each of them
-pub record PiecesReady (bytes offsets sizes order : List ℕ) (total : Float) (bits : List ℕ) (w : Work) (number at : ℕ) : Type 0 where
-  pub pending : Pending bytes offsets sizes order total
-  pub room : (j : ℕ) → j < length order → Room bits order w (at + j)
-  pub numbers : number + length order < 2 ^ 32
-
--- what an item on its turn leaves: so many chunks, and the areas with them
-pub record Converted (es : List Emission) (bits : List ℕ) (number at count : ℕ) (before after : Work) : Type 0 where
-  pub made : count ≡ length es
-  pub areas : after ≡ withChunks bits number at es before

@@ -1,15 +1,17 @@
 // An item turned into chunks.
-use crate::left::keep_left;
-use crate::pieces::emit_oversized;
 use cut::sizes::total_size;
 use emitting::emit::Head;
 use emitting::emit::emit_chunk;
 use index::ChunkIdx;
+use left::keep_left;
 use limit::Limit;
 use oversized::order::in_id_order;
+use pieces::emit_oversized;
 ghost use mathlib.Core.Path.{_≡_};
 ghost use lib.ListN.{length};
-ghost use Rattle.items.specs.Turn.{untaken, inPieces, overLimit, emittedWithin, emittedFrom, Listed, ItemReady, Totalled, Converted};
+ghost use Rattle.left.specs.Untaken.{untaken, Listed};
+ghost use Rattle.pieces.specs.Chunks.{Converted};
+ghost use Rattle.items.specs.Turn.{inPieces, overLimit, emittedWithin, emittedFrom, ItemReady, Totalled};
 
 // The two limits in force for the size of a chunk.
 pub struct Limits {

@@ -12,7 +12,9 @@ use Rattle.emitting.specs.Emitted.{Work}
 use Rattle.grouping.specs.WorkList.{itemsOfSet}
 use Rattle.settling.specs.Modules.{modulesAt}
 use Rattle.items.specs.declared.convert.Limits.{Limits}
-use Rattle.items.specs.Turn.{Tables, untaken, emittedFrom, Listed, ItemReady, Converted}
+use Rattle.left.specs.Untaken.{untaken, Listed}
+use Rattle.pieces.specs.Chunks.{Converted}
+use Rattle.items.specs.Turn.{Tables, emittedFrom, ItemReady}
 use Rattle.running.specs.Turns.{SetTurning, SetTurned}
 use Rattle.running.proofs.ItemTurn.{turn-ready, turn-advances}
 use Rattle.names.specs.Turn.{SetOffered, SetTaken}

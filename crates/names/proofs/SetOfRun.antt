@@ -32,7 +32,7 @@ use Rattle.linking.proofs.ChunkModules.{places-distinct}
 use Rattle.linking.proofs.Untaken.{places-count}
 use Rattle.running.specs.Fits.{Walking}
 use Rattle.running.proofs.Tests.{passed-sound}
-use Rattle.items.specs.Turn.{untaken}
+use Rattle.left.specs.Untaken.{untaken}
 use Rattle.matching.specs.Matched.{keysOf, RunEnd}
 use Rattle.sets.specs.Built.{startAt, SetReady, SetBuilt}
 use Rattle.sets.specs.Gathered.{markedIn, PlacesAre}

@@ -15,7 +15,8 @@ use Rattle.settling.specs.Modules.{modulesAt}
 use Rattle.settling.specs.Settled.{settled}
 use Rattle.settling.specs.Traversal.{namesOf, afterName}
 use Rattle.emitting.specs.Emitted.{Work, HasEntry}
-use Rattle.items.specs.Turn.{Tables, untaken}
+use Rattle.left.specs.Untaken.{untaken}
+use Rattle.items.specs.Turn.{Tables}
 use Rattle.sets.specs.Gathered.{PlacesAre}
 use Rattle.sets.specs.OfBuild.{matchedOf}
 use Rattle.running.specs.Fits.{ItemFits, Walking, WalkFits}

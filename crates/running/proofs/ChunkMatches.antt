@@ -24,7 +24,7 @@ use Rattle.linking.specs.Made.{Matches, AllMatch, none, more}
 use Rattle.linking.proofs.ChunkModules.{places-distinct}
 use Rattle.linking.proofs.Modules.{modules-mem, elem-place}
 use Rattle.running.specs.Fits.{BitsOf, HeadOf}
-use Rattle.items.specs.Turn.{chunkOf}
+use Rattle.pieces.specs.Chunks.{chunkOf}
 use Rattle.running.proofs.Tests.{passed-sound}
 use Rattle.running.proofs.ModulesAt.{Within, size-of-modules, union-of-modules}
 

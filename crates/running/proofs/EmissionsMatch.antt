@@ -37,7 +37,8 @@ use Rattle.emitting.specs.declared.emit.Head.{Head}
 use Rattle.linking.specs.Made.{AllMatch, none, more}
 use Rattle.items.specs.declared.convert.Limits.{Limits}
 use Rattle.running.specs.Fits.{ItemFits, HeadOf, LimitsOf}
-use Rattle.items.specs.Turn.{Tables, chunkOf, inPieces, overIf, emittedOver, emittedWithin, emittedUnless, emittedFrom}
+use Rattle.pieces.specs.Chunks.{chunkOf}
+use Rattle.items.specs.Turn.{Tables, inPieces, overIf, emittedOver, emittedWithin, emittedUnless, emittedFrom}
 use Rattle.running.proofs.ModulesAt.{id-at, size-at, size-of-modules, places-exact}
 use Rattle.running.proofs.ByRanks.{by-ranks}
 use Rattle.running.proofs.ChunkMatches.{SamePlaces, same-self, matches, all-match}

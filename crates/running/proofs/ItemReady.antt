@@ -18,7 +18,8 @@ use Rattle.emitting.specs.Emitted.{Work, Room, HasEntry, HasBits}
 use Rattle.linking.proofs.MadeRead.{made-long}
 use Rattle.running.specs.Fits.{ItemFits}
 use Rattle.running.specs.State.{State}
-use Rattle.items.specs.Turn.{Tables, untaken, ItemReady}
+use Rattle.left.specs.Untaken.{untaken}
+use Rattle.items.specs.Turn.{Tables, ItemReady}
 use Rattle.running.proofs.Tests.{few-modules, sizes-length, offsets-length, passed-sound}
 use Rattle.running.proofs.ModulesAt.{Within, modules-below, modules-exact}
 use Rattle.running.proofs.StateLeft.{left-placed, untaken-left, left-room, state-lengths}

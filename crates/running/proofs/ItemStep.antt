@@ -23,7 +23,8 @@ use Rattle.linking.proofs.MoreChunks.{matched-count}
 use Rattle.items.specs.declared.convert.Limits.{Limits}
 use Rattle.running.specs.Fits.{ItemFits, HeadOf, LimitsOf}
 use Rattle.running.specs.State.{Settling, Roomy, State}
-use Rattle.items.specs.Turn.{Tables, untaken, emittedFrom}
+use Rattle.left.specs.Untaken.{untaken}
+use Rattle.items.specs.Turn.{Tables, emittedFrom}
 use Rattle.running.proofs.Tests.{passed-sound}
 use Rattle.running.proofs.EmissionsMatch.{emissions-match}
 use Rattle.running.proofs.StateLeft.{left-placed, has-room, state-filled, settling-room, untaken-left}

@@ -15,7 +15,9 @@ use Rattle.emitting.specs.declared.emit.Head.{Head}
 use Rattle.items.specs.declared.convert.Limits.{Limits}
 use Rattle.running.specs.Fits.{ItemFits, HeadOf, LimitsOf}
 use Rattle.running.specs.State.{State, Advance, Begun}
-use Rattle.items.specs.Turn.{Tables, untaken, emittedFrom, ItemReady, Converted}
+use Rattle.left.specs.Untaken.{untaken}
+use Rattle.pieces.specs.Chunks.{Converted}
+use Rattle.items.specs.Turn.{Tables, emittedFrom, ItemReady}
 use Rattle.running.proofs.ItemReady.{item-entries, item-ready}
 use Rattle.running.proofs.ItemStep.{item-step}
 

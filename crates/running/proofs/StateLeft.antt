@@ -21,7 +21,7 @@ use Rattle.linking.proofs.ChunkModules.{places-distinct}
 use Rattle.linking.proofs.MadeRead.{made-lengths}
 use Rattle.linking.proofs.Untaken.{left-modules, room-left, places-count}
 use Rattle.running.specs.State.{Settling, Roomy, State}
-use Rattle.items.specs.Turn.{untaken}
+use Rattle.left.specs.Untaken.{untaken}
 use Rattle.running.proofs.Tests.{passed-sound}
 
 pub left-placed : (n : ℕ) (chunks : List Chunk) {places : List ℕ} → Placed n places → Placed n (leftOf chunks places)

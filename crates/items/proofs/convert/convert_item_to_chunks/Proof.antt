@@ -8,8 +8,9 @@ use lib.Seq.{length-take-le}
 use Rattle.whole.specs.Double.{sumF64}
 use Rattle.cut.specs.Order.{sizesIn, Sized}
 use Rattle.emitting.specs.Emitted.{Work}
-use Rattle.items.specs.Turn.{Tables, untaken, emittedWithin, ItemReady}
-use Rattle.items.proofs.KeepLeft.{left-few}
+use Rattle.left.specs.Untaken.{untaken}
+use Rattle.left.proofs.KeepLeft.{left-few}
+use Rattle.items.specs.Turn.{Tables, emittedWithin, ItemReady}
 use Rattle.items.proofs.FromLeft.{none-converted, nothing-left, below-minimum, from-minimum}
 use Rattle.items.proofs.Within.{same-converted}
 use borrow.Author.Needs.{needs}

@@ -1,12 +1,12 @@
--- `items::pieces::emit_pieces` meets its contract: the modules in id order are cut into pieces, and a chunk is emitted for each.
+-- `pieces::emit_pieces` meets its contract: the modules in id order are cut into pieces, and a chunk is emitted for each.
 use Prim.Native.Nat.{_≤_}
 use mathlib.Core.Path.{sym}
 use lib.ListN.{length}
 use lib.Seq.{length-take-le}
 use borrow.Author.Needs.{needs}
-use Rattle.items.proofs.InPieces.{in-starts, in-totals, pieces-parts, pieces-numbers, pieces-converted}
-use Rattle.items.proofs.pieces.emit_pieces.Statement.{statement}
-use Rattle.items.proofs.pieces.emit_pieces.Tie as tie
+use Rattle.pieces.proofs.Cut.{in-starts, in-totals, pieces-parts, pieces-numbers, pieces-converted}
+use Rattle.pieces.proofs.emit_pieces.Statement.{statement}
+use Rattle.pieces.proofs.emit_pieces.Tie as tie
 
 -- ---- what is known once the modules are cut
 

@@ -11,7 +11,7 @@ use lib.Seq.{take-suc-set, take-set-le, take-all}
 use Rattle.lists.specs.Keep.{keep}
 use Rattle.lists.proofs.KeepLength.{keep-le}
 use Rattle.lists.proofs.KeepLoop.{keep-take-in, keep-take-out}
-use Rattle.items.specs.Turn.{untaken, Kept}
+use Rattle.left.specs.Untaken.{untaken, Kept}
 
 -- the first `count` members are what is left of the first i modules
 pub record Passed (list chunk-of members₀ members : List ℕ) (count i : ℕ) : Type 0 where

@@ -4,7 +4,7 @@ use emitting::emit::emit_parts;
 use index::ChunkIdx;
 use oversized::pieces::split_oversized;
 ghost use Rattle.oversized.specs.Cutting.{Lent};
-ghost use Rattle.items.specs.Turn.{chunksOf, PiecesReady, Converted};
+ghost use Rattle.pieces.specs.Chunks.{chunksOf, PiecesReady, Converted};
 
 // Emits a chunk for each piece, or one for all modules if no cut is allowed. Four areas hold what the cuts read, where the pieces begin and their sizes.
 fn emit_pieces(

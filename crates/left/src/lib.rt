@@ -1,5 +1,5 @@
 // What is left of an item: chunk numbers serve as the marks of what is taken.
-ghost use Rattle.items.specs.Turn.{untaken, Listed, Kept};
+ghost use Rattle.left.specs.Untaken.{untaken, Listed, Kept};
 
 // Writes the modules of the list that have no chunk number. Answers how many there are. Every module is written, and the next one over it unless it
 // counts: so the loop has no branch that depends on the modules.

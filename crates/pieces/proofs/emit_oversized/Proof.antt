@@ -1,12 +1,12 @@
--- `items::pieces::emit_oversized` meets its contract: local areas are lent as far as the modules need them.
+-- `pieces::emit_oversized` meets its contract: local areas are lent as far as the modules need them.
 use Prim.Native.Nat.{_≤_}
 use mathlib.Core.Path.{sym}
 use native.Mathlib.Omega.{arith}
 use lib.ListN.{length}
 use lib.Seq.{length-take-le}
 use borrow.Author.Needs.{needs}
-use Rattle.items.proofs.pieces.emit_oversized.Statement.{statement}
-use Rattle.items.proofs.pieces.emit_oversized.Tie as tie
+use Rattle.pieces.proofs.emit_oversized.Statement.{statement}
+use Rattle.pieces.proofs.emit_oversized.Tie as tie
 
 array-borrow-prefix-similar : tie.Need-array-borrow-prefix-similar
 array-borrow-prefix-similar c = search needs

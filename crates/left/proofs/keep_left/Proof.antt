@@ -1,12 +1,12 @@
--- `items::left::keep_left` meets its contract. The loop's invariant: what is left of the first i modules is written.
+-- `left::keep_left` meets its contract. The loop's invariant: what is left of the first i modules is written.
 use Prim.Native.Nat.{_-_}
 use mathlib.Core.Logic.{⊎-elim}
 use native.Mathlib.Omega.{arith}
 use borrow.Author.Tests.{eq-eqb, ne-eqb}
 use lib.ListN.{length, getD}
-use Rattle.items.proofs.KeepLeft.{Passed, none-kept, one-kept, one-passed, all-kept}
-use Rattle.items.proofs.left.keep_left.Statement.{statement}
-use Rattle.items.proofs.left.keep_left.Tie as tie
+use Rattle.left.proofs.KeepLeft.{Passed, none-kept, one-kept, one-passed, all-kept}
+use Rattle.left.proofs.keep_left.Statement.{statement}
+use Rattle.left.proofs.keep_left.Tie as tie
 
 abbrev Inv-loop : tie.InvT-loop
 Inv-loop list chunk-of members₀ count₀ i₀ members count i = Passed list chunk-of members₀ members count i

@@ -9,7 +9,7 @@ use Rattle.settling.proofs.PieceParts.{backwards}
 use Rattle.oversized.specs.Cutting.{startsFrom, sizesOf}
 use Rattle.emitting.specs.Emitted.{Emission, partsFrom, emissions}
 use Rattle.emitting.specs.declared.emit.Head.{Head}
-use Rattle.items.specs.Turn.{chunkOf}
+use Rattle.pieces.specs.Chunks.{chunkOf}
 
 -- ---- parts
 

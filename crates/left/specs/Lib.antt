@@ -1,0 +1,2 @@
+-- What is left of an item.
+pub mod Untaken
