@@ -13,9 +13,9 @@ use Rattle.lists.proofs.Below.{neither}
 use Rattle.refusal.specs.Counts.{moduleLimit, recordLimit, badLength}
 use Rattle.refusal.proofs.Lengths.{right-length, first-length}
 use Rattle.records.specs.Bad.{RecordTables, badRecords}
-use Rattle.capture.specs.Reached.{Marks}
+use Rattle.walk.specs.Reached.{Marks}
 use Rattle.capture.specs.Capture.{Given, Captured}
-use Rattle.capture.specs.Walk.{StartReady}
+use Rattle.capture.specs.Start.{StartReady}
 use Rattle.capture.specs.Call.{Areas, badCounts, badLengths, Written}
 
 -- marks of a table's front are marks of the whole table

@@ -7,9 +7,10 @@ use mathlib.Core.Logic.{_↔_}
 use mathlib.Core.Path.{_≡_, refl}
 use Rattle.records.specs.Bad.{badRecords}
 use Rattle.records.proofs.Table.{good, dependencies-in}
-use Rattle.capture.specs.Reached.{Reached}
-use Rattle.capture.specs.Capture.{Given, Eligible, Names, Captured}
-use Rattle.capture.proofs.Reached.{reached-all, reached-eligible, same-names, union-of-starts}
+use Rattle.walk.specs.Reached.{Reached}
+use Rattle.walk.specs.Names.{Eligible, Names}
+use Rattle.walk.proofs.Reached.{reached-all, reached-eligible, same-names, union-of-starts}
+use Rattle.capture.specs.Capture.{Given, Captured}
 
 -- with recursion on, a capture is what is reached from the start alone
 pub captured-walk : (g : Given) → g .recursive ≡ true → (m : ℕ) → Captured g m ↔ Reached (Eligible (g .flags)) (Names (g .first) (g .dependency) (g .next) (g .d)) (λ k. k ≡ g .from) m

@@ -9,12 +9,13 @@ use native.Mathlib.Omega.{arith}
 use lib.ListN.{length, getD, set, replicate, length-replicate}
 use lib.Seq.{getD-set-same}
 use Rattle.lists.proofs.Stored.{zeros, set-cases}
-use Rattle.capture.specs.Reached.{Reached, start, further, Marks}
-use Rattle.capture.specs.Capture.{Given, Eligible, Names, Captured}
-use Rattle.capture.specs.Walk.{WalkState}
-use Rattle.capture.proofs.Reached.{more-starts, reached-all, marks-of}
+use Rattle.walk.specs.Reached.{Reached, start, further, Marks}
+use Rattle.walk.specs.Names.{Eligible, Names}
+use Rattle.walk.specs.Walk.{WalkState}
+use Rattle.walk.proofs.Reached.{more-starts, reached-all, marks-of}
+use Rattle.walk.proofs.State.{state-none, state-found}
+use Rattle.capture.specs.Capture.{Given, Captured}
 use Rattle.capture.proofs.Captured.{captured-walk}
-use Rattle.capture.proofs.State.{state-none, state-found}
 
 -- no module marked but the start
 abbrev pub onlyStart : ℕ → ℕ → List ℕ

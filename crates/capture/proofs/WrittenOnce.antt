@@ -10,7 +10,7 @@ use Rattle.refusal.specs.Outcome.{Outcome, refused, accepted}
 use Rattle.capture.specs.Capture.{Given}
 use Rattle.capture.specs.Call.{Areas, Written, CaptureCall, captureOutcome, outcomeOf}
 use Rattle.capture.specs.declared.CaptureAnswer.{CaptureAnswer}
-use Rattle.capture.proofs.Reached.{same-marks}
+use Rattle.walk.proofs.Reached.{same-marks}
 
 -- lists of one length that agree below n and from n on are equal
 equal-parts : {A : Type 0} (d : A) (n : ℕ) (a b : List A) → length a ≡ length b → ((i : ℕ) → i < n → getD a i d ≡ getD b i d) → drop n a ≡ drop n b → a ≡ b

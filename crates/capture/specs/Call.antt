@@ -10,7 +10,7 @@ use Rattle.refusal.specs.Call.{Call, whole}
 use Rattle.refusal.specs.Counts.{moduleLimit, recordLimit, badLength}
 use Rattle.flags.specs.Flags.{badFlags}
 use Rattle.records.specs.Bad.{badRecords}
-use Rattle.capture.specs.Reached.{Marks}
+use Rattle.walk.specs.Reached.{Marks}
 use Rattle.capture.specs.Capture.{Given, Captured}
 use Rattle.capture.specs.declared.CaptureAnswer.{CaptureAnswer}
 use Rattle.capture.specs.declared.CaptureAnswer.the-variants.{Refused, Done}

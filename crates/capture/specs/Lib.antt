@@ -1,6 +1,4 @@
--- The capture of a module and its dependencies.
-pub mod Reached
+-- The capture of a module and its dependencies. What is reached, and what a module names, stand in `walk/specs`.
 pub mod Capture
-pub mod Followed
-pub mod Walk
+pub mod Start
 pub mod Call

@@ -1,8 +1,4 @@
 // The capture of a module: what it reaches along its dependencies through eligible modules.
-pub mod forget;
-pub mod plain;
-pub mod walk;
-
 use index::ModuleIdx;
 use lists::fill::clear_bytes;
 use lists::fill::clear_words;
@@ -11,9 +7,9 @@ ghost use Prim.Native.Nat.{_-_, _≤_};
 ghost use lib.ListN.{length};
 ghost use Rattle.refusal.specs.Counts.{recordLimit};
 ghost use Rattle.refusal.specs.Outcome.{firstNumber};
-ghost use Rattle.capture.specs.Reached.{Marks};
+ghost use Rattle.walk.specs.Reached.{Marks};
 ghost use Rattle.capture.specs.Capture.{Captured};
-ghost use Rattle.capture.specs.Walk.{StartReady};
+ghost use Rattle.capture.specs.Start.{StartReady};
 ghost use Rattle.capture.specs.Call.{badCounts, badLengths, inputTests, CaptureCall};
 
 pub enum CaptureAnswer {
@@ -89,7 +85,7 @@ fn capture_from(
     }
     queue[0] = from.0;
     let mut followed = [0u8; 65536];
-    walk::walk(
+    walk::walk::walk(
         flags,
         first,
         dependency,

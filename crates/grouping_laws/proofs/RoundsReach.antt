@@ -8,7 +8,7 @@ use mathlib.Core.Path.{_≡_, refl, sym, ap, _∙_, subst}
 use native.Mathlib.Nat.{zero-add, suc-add, le-of-suc-le-suc, not-suc-le-zero}
 use native.Mathlib.Omega.{arith}
 use lib.ListN.{length}
-use Rattle.capture.specs.Reached.{Reached, start, further}
+use Rattle.walk.specs.Reached.{Reached, start, further}
 use Rattle.grouping.specs.Tree.{Member, Tree, memberAt}
 use Rattle.grouping.specs.Sets.{orMarks, followed, follow, rounds, captured}
 use Rattle.grouping_laws.proofs.MarkedPlaces.{Marked, marked-below, Grown, grown-same, grown-more, unmarked, unmarked-le, grown-less}

@@ -17,8 +17,9 @@ use Rattle.lists.proofs.Position.{mem-getD, getD-mem}
 use Rattle.refusal.specs.Outcome.{accepted}
 use Rattle.filter.specs.Filter.{passes}
 use Rattle.records.proofs.Table.{good, dependencies-in}
+use Rattle.walk.specs.Reached.{Reached, start, further}
+use Rattle.walk.specs.Names.{Eligible}
 use Rattle.capture.specs.Capture as capture
-use Rattle.capture.specs.Reached.{Reached, start, further}
 use Rattle.grouping.specs.Given.{Given, Areas, answerOf}
 use Rattle.grouping.specs.Settings.{settingsOf}
 use Rattle.grouping.specs.Tree.{placesOf, treeOf}
@@ -43,7 +44,7 @@ captureFrom b g m =
 -- "Each eligible module that matches, passes the filter and has a name": module m is one
 pub record TakesPart (b : Given) (g name m : ℕ) : Type 0 where
   pub below : m < b .shared .n
-  pub chosen : capture.Eligible (b .variant .flags) m
+  pub chosen : Eligible (b .variant .flags) m
   pub matched : answerOf b g m ≡ 2 + name
   pub passed : passes (settingsOf b g .filter) (getD (b .shared .tags) m 0) (getD (b .shared .sizes) m 0) (getD (b .shared .shares) m 0) ≡ true
 
@@ -75,7 +76,7 @@ module _ (b : Given) (in-build : (m : ℕ) → m < b .shared .n → (k : ℕ) �
   outer : (q : ℕ) → q < length (placesOf b) → q < length (treeOf b)
   outer q l = omega (arith, tree-length b)
 
-  at-place : (q : ℕ) → q < length (placesOf b) → (moduleAt b q < b .shared .n) × capture.Eligible (b .variant .flags) (moduleAt b q)
+  at-place : (q : ℕ) → q < length (placesOf b) → (moduleAt b q < b .shared .n) × Eligible (b .variant .flags) (moduleAt b q)
   at-place q l = places-mem b (moduleAt b q) (getD-mem (placesOf b) q 0 l)
 
   to-modules : {q : ℕ} → Place q → InSet b g name (moduleAt b q)

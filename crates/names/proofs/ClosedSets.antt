@@ -17,9 +17,9 @@ use Rattle.flags.specs.Flags.{listed, assigned, eligible, eligibleAt}
 use Rattle.bitset.specs.Word.{bit}
 use Rattle.lists.specs.Stored.{stored}
 use Rattle.lists.proofs.Stored.{stored-either, stored-length, stored-on}
-use Rattle.capture.specs.Reached.{Reached, start, further, Marks}
-use Rattle.capture.specs.Capture.{Eligible, Names}
-use Rattle.capture.proofs.Reached.{reached-eligible}
+use Rattle.walk.specs.Reached.{Reached, start, further, Marks}
+use Rattle.walk.specs.Names.{Eligible, Names}
+use Rattle.walk.proofs.Reached.{reached-eligible}
 use Rattle.options.specs.declared.Settings.{Settings}
 use Rattle.running.specs.Fits.{Walking}
 use Rattle.sets.specs.Built.{startsOf, SetBuilt}

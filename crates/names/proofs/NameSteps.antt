@@ -15,7 +15,7 @@ use Rattle.lists.proofs.Pairs.{at-pairs}
 use Rattle.lists.proofs.Position.{mem-getD, getD-mem}
 use Rattle.lists.proofs.Range.{length-range, getD-range}
 use Rattle.lists.proofs.Runs.{Boundary, boundary-start, run-next}
-use Rattle.capture.specs.Capture.{Eligible}
+use Rattle.walk.specs.Names.{Eligible}
 use Rattle.options.specs.declared.Settings.{Settings}
 use Rattle.grouping.specs.Given.{Given}
 use Rattle.grouping.specs.Tree.{Tree, placesOf, treeOf}

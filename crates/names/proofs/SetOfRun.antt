@@ -16,9 +16,9 @@ use Rattle.lists.proofs.Position.{mem-getD, getD-mem}
 use Rattle.lists.proofs.Runs.{Ascending, Boundary, Run, run-of, run-keeps}
 use Rattle.lists.proofs.Sort.{Pairs}
 use Rattle.records.specs.Bad.{badRecords}
-use Rattle.capture.specs.Capture.{Eligible}
-use Rattle.capture.specs.Followed.{unfollowed}
-use Rattle.capture.specs.Walk.{WalkTables}
+use Rattle.forget.specs.Unfollowed.{unfollowed}
+use Rattle.walk.specs.Names.{Eligible}
+use Rattle.walk.specs.Walk.{WalkTables}
 use Rattle.options.specs.declared.Settings.{Settings}
 use Rattle.grouping.specs.Given.{Given}
 use Rattle.grouping.specs.Tree.{placesOf, treeOf}

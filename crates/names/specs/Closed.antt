@@ -8,7 +8,7 @@ use lib.Dec.{eqb}
 use lib.ListN.{length, getD}
 use Rattle.lists.specs.Below.{anyBelow}
 use Rattle.lists.specs.Stored.{stored}
-use Rattle.capture.specs.Capture.{Eligible, Names}
+use Rattle.walk.specs.Names.{Eligible, Names}
 use Rattle.options.specs.declared.Settings.{Settings}
 
 -- sets of the group can be closed: they hold all that their modules reach, and each is one item

@@ -4,7 +4,7 @@ use mathlib.Core.Bool.{Bool, true}
 use mathlib.Core.List.{List, foldl}
 use mathlib.Core.Path.{_≡_}
 use lib.ListN.{length}
-use Rattle.capture.specs.Followed.{unfollowed}
+use Rattle.forget.specs.Unfollowed.{unfollowed}
 use Rattle.options.specs.declared.Settings.{Settings}
 use Rattle.grouping.specs.Given.{Given}
 use Rattle.grouping.specs.Settings.{settingsOf}

@@ -4,7 +4,7 @@ use options::Settings;
 use sets::built::build_set;
 ghost use mathlib.Core.Path.{_≡_};
 ghost use lib.ListN.{length, replicate};
-ghost use Rattle.capture.specs.Followed.{unfollowed};
+ghost use Rattle.forget.specs.Unfollowed.{unfollowed};
 ghost use Rattle.emitting.specs.Emitted.{HasEntry};
 ghost use Rattle.sets.specs.Built.{SetReady, SetBuilt};
 ghost use Rattle.names.specs.Closed.{closes, liveBy, someLeft, closedAfter};

@@ -16,7 +16,7 @@ use options::Settings;
 ghost use mathlib.Core.Path.{_≡_};
 ghost use Prim.Native.Nat.{_*_, _≤_};
 ghost use lib.ListN.{length};
-ghost use Rattle.capture.specs.Followed.{unfollowed};
+ghost use Rattle.forget.specs.Unfollowed.{unfollowed};
 ghost use Rattle.grouping.specs.WorkList.{itemsOfSet};
 ghost use Rattle.names.specs.Closed.{Closed};
 ghost use Rattle.names.specs.Turn.{SetOffered, SetTaken, NamesTurning, NamesRoom, NamesTurned};

@@ -18,10 +18,11 @@ use Rattle.lists.proofs.Pairs.{pairs-keep}
 use Rattle.lists.proofs.Position.{mem-getD, getD-mem}
 use Rattle.lists.proofs.Sort.{Rising, pairs-weaker, pairs-kept, keys-same}
 use Rattle.filter.specs.Filter.{passes}
-use Rattle.capture.specs.Reached.{Reached, start}
+use Rattle.walk.specs.Reached.{Reached, start}
+use Rattle.walk.specs.Names.{Eligible, Names}
+use Rattle.walk.proofs.Reached.{reached-all}
 use Rattle.capture.specs.Capture as capture
 use Rattle.capture.proofs.Captured.{union-of-captures}
-use Rattle.capture.proofs.Reached.{reached-all}
 use Rattle.grouping.specs.Given.{Given, answerOf}
 use Rattle.grouping.specs.Settings.{settingsOf}
 use Rattle.grouping.specs.Tree.{placesOf, treeOf, memberAt}
@@ -87,7 +88,7 @@ module _ (b : Given) (ok : Passed b) (g : ℕ) (h : g < b .variant .g) (name : �
   -- module k is reached from the starts, along chains of at most d records
   abbrev Reach : ℕ → ℕ → Type 0
   Reach d k =
-      Reached (capture.Eligible (b .variant .flags)) (capture.Names (b .shared .first) (b .shared .dependency) (b .shared .next) d)
+      Reached (Eligible (b .variant .flags)) (Names (b .shared .first) (b .shared .dependency) (b .shared .next) d)
       (λ m. List·Memᴰ m starts) k
 
   -- with recursion on: who is reached from the starts
@@ -193,7 +194,7 @@ module _ (b : Given) (ok : Passed b) (g : ℕ) (h : g < b .variant .g) (name : �
   -- module k is reached by the flag bytes `live`, from some modules or from the starts
   abbrev ReachFrom : (ℕ → Type 0) → List ℕ → ℕ → Type 0
   ReachFrom S live k =
-      Reached (capture.Eligible live) (capture.Names (b .shared .first) (b .shared .dependency) (b .shared .next) (length (b .shared .next) - 1)) S k
+      Reached (Eligible live) (Names (b .shared .first) (b .shared .dependency) (b .shared .next) (length (b .shared .next) - 1)) S k
 
   abbrev ReachBy : List ℕ → ℕ → Type 0
   ReachBy live k = ReachFrom (λ m. List·Memᴰ m starts) live k

@@ -13,12 +13,12 @@ use lib.Seq.{take-suc, take-all}
 use Rattle.lists.proofs.Stored.{zeros}
 use Rattle.lists.proofs.Fold.{foldl-append}
 use Rattle.lists.proofs.Position.{mem-getD, take-position}
-use Rattle.capture.specs.Reached.{Reached, start, further, Marks}
-use Rattle.capture.specs.Capture.{Eligible, Names}
-use Rattle.capture.specs.Walk.{Walk, markedCount, WalkState, visited}
-use Rattle.capture.proofs.Reached.{marks-of}
-use Rattle.capture.proofs.State.{state-none}
-use Rattle.capture.proofs.Visit.{Visited, visit-all}
+use Rattle.walk.specs.Reached.{Reached, start, further, Marks}
+use Rattle.walk.specs.Names.{Eligible, Names}
+use Rattle.walk.specs.Walk.{Walk, markedCount, WalkState, visited}
+use Rattle.walk.proofs.Reached.{marks-of}
+use Rattle.walk.proofs.State.{state-none}
+use Rattle.walk.proofs.Visit.{Visited, visit-all}
 use Rattle.sets.specs.Captured.{StartsIn}
 use Rattle.sets.proofs.Counting.{count-both}
 

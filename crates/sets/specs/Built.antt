@@ -6,8 +6,8 @@ use mathlib.Core.Path.{_≡_}
 use lib.ListN.{length, getD, replicate}
 use Rattle.lists.specs.Packed.{itemOf}
 use Rattle.lists.proofs.Sort.{Pairs}
-use Rattle.capture.specs.Followed.{unfollowed}
-use Rattle.capture.specs.Walk.{WalkTables}
+use Rattle.forget.specs.Unfollowed.{unfollowed}
+use Rattle.walk.specs.Walk.{WalkTables}
 use Rattle.lists.specs.Area.{Holds}
 use Rattle.sets.specs.Captured.{AllCaptured}
 use Rattle.sets.specs.Gathered.{markedIn, PlacesAre}

@@ -3,10 +3,10 @@ use Prim.Native.Nat.{ℕ, _-_, _≤_, _<_}
 use mathlib.Core.List.{List, List·Memᴰ}
 use mathlib.Core.Path.{_≡_}
 use lib.ListN.{length, getD, replicate}
-use Rattle.capture.specs.Reached.{Reached, Marks}
-use Rattle.capture.specs.Capture.{Eligible, Names}
-use Rattle.capture.specs.Followed.{unfollowed}
-use Rattle.capture.specs.Walk.{Walk, WalkTables, WalkState}
+use Rattle.forget.specs.Unfollowed.{unfollowed}
+use Rattle.walk.specs.Reached.{Reached, Marks}
+use Rattle.walk.specs.Names.{Eligible, Names}
+use Rattle.walk.specs.Walk.{Walk, WalkTables, WalkState}
 
 -- each start is one of the n modules
 abbrev pub StartsIn : List ℕ → ℕ → Type 0

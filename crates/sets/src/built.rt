@@ -4,7 +4,7 @@ use crate::gathered::gather_found;
 use lists::store::store_bytes;
 ghost use mathlib.Core.Path.{_≡_};
 ghost use lib.ListN.{length, replicate};
-ghost use Rattle.capture.specs.Followed.{unfollowed};
+ghost use Rattle.forget.specs.Unfollowed.{unfollowed};
 ghost use Rattle.sets.specs.Built.{startsOf, Placed, SetReady, SetBuilt};
 
 // Writes the modules that take part: those at the places of a run.

@@ -1,12 +1,12 @@
 // What several modules capture together: a walk that starts with all of them on its list.
-use capture::walk::visit;
-use capture::walk::walk;
 use index::ModuleIdx;
+use walk::walk::visit;
+use walk::walk::walk;
 ghost use mathlib.Core.List.{foldl};
 ghost use mathlib.Core.Path.{_≡_};
 ghost use Prim.Native.Nat.{_-_};
-ghost use Rattle.capture.specs.Followed.{unfollowed};
-ghost use Rattle.capture.specs.Walk.{visited};
+ghost use Rattle.forget.specs.Unfollowed.{unfollowed};
+ghost use Rattle.walk.specs.Walk.{visited};
 ghost use Rattle.sets.specs.Captured.{StartsReady, AllReady, AllFound};
 
 // Marks each start and puts it on the list. Answers how many are on it.

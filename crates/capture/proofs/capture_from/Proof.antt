@@ -5,8 +5,9 @@ use mathlib.Core.Path.{_≡_, refl, sym, ap, _∙_}
 use native.Mathlib.Omega.{arith}
 use borrow.Author.Tests.{not-true, not-false}
 use lib.ListN.{length, replicate, length-set}
-use Rattle.capture.specs.Capture.{Given, Eligible}
-use Rattle.capture.specs.Followed.{unfollowed}
+use Rattle.forget.specs.Unfollowed.{unfollowed}
+use Rattle.walk.specs.Names.{Eligible}
+use Rattle.capture.specs.Capture.{Given}
 use Rattle.capture.proofs.Start.{capture-none, capture-alone, capture-walk, start-state}
 use borrow.Author.Needs.{needs}
 use Rattle.capture.proofs.capture_from.Statement.{statement}

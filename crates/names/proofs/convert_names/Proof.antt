@@ -7,8 +7,8 @@ use native.Mathlib.Omega.{arith}
 use borrow.Author.Needs.{needs}
 use lib.ListN.{length, take, drop, replicate, length-replicate}
 use lib.Seq.{length-take-le, length-front}
-use Rattle.capture.specs.Followed.{unfollowed}
-use Rattle.capture.proofs.Trail.{unfollowed-bytes}
+use Rattle.forget.specs.Unfollowed.{unfollowed}
+use Rattle.walk.proofs.Trail.{unfollowed-bytes}
 use Rattle.names.specs.Closed.{Closed}
 use Rattle.names.proofs.ClosedSets.{live-bytes, closed-as}
 use Rattle.names.proofs.SetOfRun.{run-is, set-ready}

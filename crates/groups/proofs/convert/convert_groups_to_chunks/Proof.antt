@@ -6,8 +6,8 @@ use borrow.Author.Needs.{needs}
 use lib.ListN.{length, take, drop, replicate, length-replicate}
 use lib.Seq.{length-take-le, length-front, take-at}
 use Rattle.lists.proofs.Stored.{zeros}
-use Rattle.capture.specs.Followed.{unfollowed}
-use Rattle.capture.proofs.Trail.{unfollowed-bytes}
+use Rattle.forget.specs.Unfollowed.{unfollowed}
+use Rattle.walk.proofs.Trail.{unfollowed-bytes}
 use Rattle.emitting.proofs.Chunk.{SameLengths, same-lengths}
 use Rattle.names.specs.Closed.{Closed}
 use Rattle.names.proofs.ClosedSets.{closed-none, closed-as}

@@ -7,8 +7,8 @@ use native.Mathlib.Omega.{arith}
 use borrow.Author.Tests.{eqb-true, not-true, not-false}
 use lib.ListN.{length, getD, take, drop}
 use lib.Seq.{length-take-le}
-use Rattle.capture.proofs.MarksUndone.{on-list, list-in, marks-undone}
-use Rattle.capture.proofs.Walking.{list-within}
+use Rattle.walk.proofs.MarksUndone.{on-list, list-in, marks-undone}
+use Rattle.walk.proofs.Walking.{list-within}
 use Rattle.sets.specs.Built.{startsOf}
 use Rattle.sets.specs.Captured.{StartsIn, AllCaptured}
 use Rattle.sets.specs.Gathered.{markedIn}

@@ -1,0 +1,2 @@
+-- Marks of followed records.
+pub mod Unfollowed
