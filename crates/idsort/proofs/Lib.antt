@@ -1,10 +1,6 @@
--- The laws of blocks and of shared bytes, of sorting by them, and what the proofs of the code cite.
-pub mod Bytes
-pub mod Prefixes
-pub mod SameBytes
+-- The laws of sorting by blocks, run by run, and what the proofs of the code cite.
 pub mod Refining
-pub mod Sharing
+pub mod SharedBlocks
 pub mod ByBlocks
-pub mod Filling
 pub mod Inserting
 pub mod OneRound

@@ -18,7 +18,7 @@ use Rattle.lists.proofs.Range.{length-range}
 use Rattle.lists.proofs.Rearranged.{sort-perm, perm-length}
 use Rattle.lists.proofs.Sort.{Pairs, pairs-kept}
 use Rattle.flags.specs.Flags.{listed}
-use Rattle.sorts.specs.ById.{byId}
+use Rattle.orders.specs.ById.{byId}
 use Rattle.grouping.specs.Given.{Given}
 use Rattle.grouping.specs.Tree.{runsBefore}
 use Rattle.grouping.specs.Conditions.{sharedId, sharedOrder}

@@ -11,9 +11,9 @@ use Rattle.lists.proofs.Position.{getD-mem}
 use Rattle.lists.proofs.Rearranged.{sort-perm, perm-length}
 use Rattle.lists.proofs.Sort.{sort-mem}
 use Rattle.lists.proofs.Sorted.{Sorted}
-use Rattle.sorts.specs.ById.{byId, Named}
-use Rattle.sorts.proofs.Naming.{named-within}
-use Rattle.sorts.proofs.Orders.{by-id}
+use Rattle.orders.specs.ById.{byId, Named}
+use Rattle.orders.proofs.Naming.{named-within}
+use Rattle.orders.proofs.Orders.{by-id}
 use Rattle.places.specs.AnyTwo.{anyTwo}
 use Rattle.places.specs.ById.{sameId, neighboursTie, HasRanks, Rankable}
 use Rattle.places.proofs.SameIds.{in-id-order, untied-rises, ties-share}

@@ -15,7 +15,7 @@ use Rattle.lists.proofs.SortMap.{sort-same}
 use Rattle.lists.proofs.SortPacked.{pack, pack-apart, packed-sort}
 use Rattle.ids.specs.Parts.{idAt}
 use Rattle.ids.proofs.ByteOrder.{before-irrefl, before-asym}
-use Rattle.sorts.specs.ById.{byId}
+use Rattle.orders.specs.ById.{byId}
 use Rattle.places.specs.AnyTwo.{anyTwo}
 use Rattle.places.specs.ById.{sameId, Ranks}
 use Rattle.places.specs.Ordered.{ranksSorted}

@@ -16,11 +16,11 @@ use Rattle.lists.proofs.Sorted.{Sorted, sort-sorts}
 use Rattle.ids.specs.Order.{before}
 use Rattle.ids.specs.Parts.{idAt}
 use Rattle.ids.proofs.ByteOrder.{before-irrefl, before-total}
-use Rattle.sorts.specs.ById.{byId}
-use Rattle.sorts.proofs.Orders.{by-id}
-use Rattle.sorts.proofs.Neighbours.{pairs-at, at-pairs, neighbours-pairs, Comparable, neighbours-rise, rise-neighbours}
-use Rattle.idsort.specs.Shared.{Compared}
-use Rattle.idsort.proofs.Sharing.{id-order}
+use Rattle.orders.specs.ById.{byId}
+use Rattle.orders.proofs.Orders.{by-id}
+use Rattle.orders.proofs.Neighbours.{pairs-at, at-pairs, neighbours-pairs, Comparable, neighbours-rise, rise-neighbours}
+use Rattle.idbytes.specs.Shared.{Compared}
+use Rattle.idbytes.proofs.Sharing.{id-order}
 use Rattle.places.specs.AnyTwo.{anyTwo}
 use Rattle.places.specs.ById.{sameId, tiedAt, neighboursTie}
 use Rattle.places.proofs.TwoOf.{same-answer, none-two, two-none}

@@ -8,7 +8,7 @@ use Rattle.lists.specs.Below.{anyBelow}
 use Rattle.lists.specs.Same.{sameNumbers}
 use Rattle.lists.specs.Sort.{sortBy}
 use Rattle.ids.specs.Parts.{idAt}
-use Rattle.sorts.specs.ById.{byId, Named}
+use Rattle.orders.specs.ById.{byId, Named}
 use Rattle.places.specs.AnyTwo.{anyTwo}
 
 -- modules l and m have the same id

@@ -10,7 +10,7 @@ use Rattle.lists.specs.Packed.{packed, itemOf}
 use Rattle.lists.specs.Range.{range}
 use Rattle.lists.specs.Sort.{sortBy}
 use Rattle.flags.specs.Flags.{listed}
-use Rattle.sorts.specs.ById.{byId, GoodTable}
+use Rattle.orders.specs.ById.{byId, GoodTable}
 use Rattle.grouping.specs.Given.{Given, isListed}
 use Rattle.grouping.specs.Tree.{runsBefore}
 use Rattle.grouping.specs.Conditions.{sharedId, sharedOrder}

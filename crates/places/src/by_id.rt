@@ -1,12 +1,12 @@
 // Ranks of the modules among their ids, and refusal 4.
+use idbytes::shared::same_id;
 use ids::parts::id_at;
 use idsort::rounds::sort_by_id;
-use idsort::shared::same_id;
 use index::ModuleIdx;
 ghost use mathlib.Core.Path.{_≡_};
 ghost use Prim.Native.Nat.{_+_, _<_};
 ghost use lib.ListN.{length};
-ghost use Rattle.sorts.specs.ById.{Named};
+ghost use Rattle.orders.specs.ById.{Named};
 ghost use Rattle.places.specs.ById.{tiedAt, neighboursTie, Rankable, Ranks, HasRanks, RankArea, RankedById};
 
 // Whether the modules at i and i + 1 of a list have the same id.

@@ -1,23 +1,4 @@
--- The laws of sorted lists, and of sorting by insertion, by digits and by parts, and what the proofs of the code cite.
-pub mod Neighbours
-pub mod Orders
+-- The laws of numbers with one key and of sorting by runs, and what the proofs of the code cite.
 pub mod SameKey
-pub mod Naming
-pub mod NeighbourOrder
-pub mod InsertOne
-pub mod InsertAll
-pub mod SortTwice
-pub mod TwoNumbers
-pub mod Tables
-pub mod Buckets
-pub mod Counting
-pub mod Sums
-pub mod Dealing
-pub mod DigitOrder
-pub mod Differing
-pub mod Passes
-pub mod FindingParts
-pub mod PartOrder
-pub mod LayingParts
 pub mod SortRuns
 pub mod RunByRun

@@ -1,7 +1,3 @@
-// Sorts. Each is stated as equal to the sort by insertion of `lists`, ties in their order.
-pub mod ascent;
-mod insertion;
+// A sort of numbers, by insertion, part by part, run by run or by digits. Stated as equal to the sort by insertion of `lists`, ties in their order.
 pub mod numbers;
-mod parts;
-mod radix;
 mod runs;

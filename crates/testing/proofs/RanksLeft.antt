@@ -13,7 +13,7 @@ use Rattle.lists.proofs.Members.{keep-mem}
 use Rattle.lists.proofs.Position.{mem-getD}
 use Rattle.lists.proofs.Range.{length-range}
 use Rattle.lists.proofs.Sort.{mem-sort, sort-mem}
-use Rattle.sorts.specs.ById.{byId}
+use Rattle.orders.specs.ById.{byId}
 use Rattle.lists.proofs.Rearranged.{sort-length}
 use Rattle.grouping.specs.Given.{Given, isListed}
 use Rattle.settling.specs.Modules.{Passed}

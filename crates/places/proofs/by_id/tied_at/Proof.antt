@@ -3,7 +3,7 @@ use Prim.Native.Nat.{_+_}
 use mathlib.Core.Path.{ap₂, _∙_}
 use native.Mathlib.Omega.{arith}
 use Rattle.lists.specs.Same.{sameNumbers}
-use Rattle.sorts.proofs.Naming.{place-in-table}
+use Rattle.orders.proofs.Naming.{place-in-table}
 use Rattle.places.specs.ById.{tiedAt}
 use Rattle.places.proofs.SameIds.{compared-same}
 use borrow.Author.Needs.{needs}

@@ -1,0 +1,2 @@
+-- Modules as numbers, for the sort by id.
+pub mod Keys
