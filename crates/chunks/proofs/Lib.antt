@@ -1,5 +1,4 @@
--- Laws of the run of a tested build, of the call Chunks, and the renumbering rule of two calls.
-pub mod TestedRun
+-- Laws of the call Chunks, and the renumbering rule of two calls.
 pub mod StateLeft
 pub mod Passing
 pub mod Renumbered

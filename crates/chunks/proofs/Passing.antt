@@ -13,7 +13,7 @@ use Rattle.grouping.specs.Given.{Given, Areas, isListed}
 use Rattle.grouping.specs.ChunkList.{chunkList}
 use Rattle.grouping.specs.Conditions.{scratchNeed, stateTests}
 use Rattle.grouping.specs.Call.{chunksTests, chunksOutcome, ChunksCall}
-use Rattle.conditions.specs.Names.{AnswersWithin}
+use Rattle.sums.specs.Names.{AnswersWithin}
 use Rattle.conditions.proofs.CountsLeft.{counts-passed}
 use Rattle.conditions.proofs.TablesLeft.{answers-within}
 use Rattle.places.specs.Ordered.{listedOf}
@@ -22,7 +22,7 @@ use Rattle.testing.specs.Tested.{InputTested}
 use Rattle.testing.proofs.TestsJoined.{refused-input, refused-state, accepted-both, input-passed}
 use Rattle.testing.proofs.RanksLeft.{ranks-of}
 use Rattle.run.specs.Ran.{Ran}
-use Rattle.chunks.specs.RunInput.{inputOf, InputFits, Runnable}
+use Rattle.tested_run.specs.RunInput.{inputOf, InputFits, Runnable}
 use Rattle.chunks.proofs.StateLeft.{small-count, room}
 
 -- what both tables hold before the tests

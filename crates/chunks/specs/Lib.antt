@@ -1,3 +1,2 @@
--- The answer of the call Chunks, and what its run is handed.
+-- The answer of the call Chunks.
 pub mod Answer
-pub mod RunInput

@@ -14,7 +14,7 @@ use Rattle.options.specs.Tables.{GroupTables}
 use Rattle.grouping.specs.Given.{Given}
 use Rattle.grouping.specs.Conditions.{countAbove, badModuleTable, badRecordTable, badGroupTable, badTable, badAnswer}
 use Rattle.conditions.specs.HandsIn.{HasGroups}
-use Rattle.conditions.specs.Names.{AnswersWithin}
+use Rattle.sums.specs.Names.{AnswersWithin}
 use Rattle.conditions.proofs.CountsLeft.{counts-passed}
 
 pub record TablesPassed (b : Given) : Type 0 where

@@ -1,6 +1,6 @@
 -- A condition speaks of a whole build, and the function that tests it takes the counts, tables or lengths that it reads. Here is what a build
 -- hands in of those.
-use Prim.Native.Nat.{ℕ, _*_, _≤_, _<_}
+use Prim.Native.Nat.{ℕ, _≤_, _<_}
 use mathlib.Core.List.{List}
 use mathlib.Core.Path.{_≡_}
 use lib.ListN.{length}
@@ -93,12 +93,6 @@ pub record HandsRecords (b : Given) (first dependency next : List ℕ) (n d : �
   pub modules : b .shared .dependency ≡ dependency
   pub nexts : b .shared .next ≡ next
 
--- flags and sizes of as many modules as there are
-pub record HandsSizes (b : Given) (flags sizes : List ℕ) : Type 0 where
-  pub module-count : b .shared .n ≡ length sizes
-  pub flag-bytes : b .variant .flags ≡ flags
-  pub sizes-of : b .shared .sizes ≡ sizes
-
 pub record HandsBits (b : Given) (flags bits : List ℕ) (n e : ℕ) : Type 0 where
   pub module-count : b .shared .n ≡ n
   pub entry-count : b .shared .e ≡ e
@@ -113,20 +107,3 @@ pub record HandsOptions (b : Given) (global : Options) (g : ℕ) (t : GroupTable
   pub group-count : b .variant .g ≡ g
   pub globals : b .shared .options ≡ global
   pub group-tables : b .variant .groups ≡ t
-
--- an answer for each group and module, of k names
-pub record HandsAnswers (b : Given) (answers : List ℕ) (k : ℕ) : Type 0 where
-  pub name-count : b .shared .k ≡ k
-  pub all-answers : b .variant .answers ≡ answers
-  pub answer-count : b .variant .g * b .shared .n ≡ length answers
-
--- the same, with the counts of modules and groups
-pub record HandsRows (b : Given) (answers : List ℕ) (n g k : ℕ) : Type 0 where
-  pub module-count : b .shared .n ≡ n
-  pub group-count : b .variant .g ≡ g
-  pub name-count : b .shared .k ≡ k
-  pub all-answers : b .variant .answers ≡ answers
-
--- no more (group, name) pairs than answers of 64 groups for 4,096 modules
-abbrev pub pairLimit : ℕ
-pairLimit = 262144

@@ -7,7 +7,8 @@ ghost use lib.ListN.{length};
 ghost use Rattle.refusal.specs.Counts.{moduleLimit};
 ghost use Rattle.grouping.specs.Given.{Given, Areas};
 ghost use Rattle.grouping.specs.Conditions.{badEntryCount, badArea, pairs, scratchNeed, badScratch};
-ghost use Rattle.conditions.specs.HandsIn.{areaLengths, pairLimit};
+ghost use Rattle.sums.specs.HandsIn.{pairLimit};
+ghost use Rattle.conditions.specs.HandsIn.{areaLengths};
 
 // The largest chunk count on entry.
 pub const CHUNK_COUNT_LIMIT: usize = 65535;

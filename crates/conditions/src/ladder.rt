@@ -10,7 +10,8 @@ ghost use Rattle.refusal.specs.Counts.{moduleLimit, nameLimit};
 ghost use Rattle.records.specs.Bad.{RecordTables};
 ghost use Rattle.grouping.specs.Given.{Given, Areas};
 ghost use Rattle.grouping.specs.Conditions.{scratchNeed, stateTests};
-ghost use Rattle.conditions.specs.HandsIn.{pairLimit, HandsSizes, HandsRecords, HandsBits, HandsAnswers};
+ghost use Rattle.sums.specs.HandsIn.{pairLimit, HandsSizes, HandsAnswers};
+ghost use Rattle.conditions.specs.HandsIn.{HandsRecords, HandsBits};
 ghost use Rattle.conditions.specs.Ladder.{shapeTests, treeTests, valueTests, HandsShape, HandsAreas};
 ghost use Rattle.refusal.specs.Outcome.{firstNumber};
 
@@ -56,7 +57,7 @@ pub fn tree_number(
     ensures { λ r. ⌜ ((b : Given) → HandsSizes b (now (flags .entry)) (now (sizes .entry))
         → HandsRecords b (now (first .entry)) (now (dependency .entry)) (now (next .entry)) n d → r ≡ firstNumber (treeTests b)) ⌝ }
 {
-    if crate::totals::bad_total(flags, sizes) {
+    if sums::totals::bad_total(flags, sizes) {
         return refusal::TOTAL;
     }
     if crate::chains::bad_dependency(first, dependency, next, n, d) {
@@ -81,7 +82,7 @@ pub fn value_number(
     if crate::bits::bad_bit(flags, bits, n, e) {
         return refusal::BIT;
     }
-    if crate::answers::bad_answer(answers, k) {
+    if sums::answers::bad_answer(answers, k) {
         return refusal::NUMBER;
     }
     0

@@ -1,5 +1,4 @@
 // The conditions of the call Chunks, one function each. Tests of numbers alone are joined by `|`: none needs the one before it.
-pub mod answers;
 pub mod areas;
 pub mod bits;
 pub mod chains;
@@ -7,8 +6,6 @@ pub mod counts;
 pub mod ladder;
 pub mod lengths;
 pub mod limits;
-pub mod names;
-pub mod totals;
 
 // The lengths of the tables that have one entry a module, and of the bits, four words each.
 pub struct ModuleLengths {

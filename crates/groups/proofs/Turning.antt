@@ -16,7 +16,7 @@ use Rattle.settling.proofs.LoopSteps.{foldl-at}
 use Rattle.emitting.specs.Emitted.{Work}
 use Rattle.items.specs.Turn.{Tables}
 use Rattle.running.specs.Fits.{ItemFits, Walking}
-use Rattle.conditions.proofs.RowCount.{row-bound}
+use Rattle.sums.proofs.RowCount.{row-bound}
 use Rattle.running.specs.State.{Advance, Begun}
 use Rattle.running.proofs.Advancing.{advance-none, advance-then, advance-same, begun-next, begun-number, begun-place}
 use Rattle.groups.specs.Turn.{Asked, OneFits, GroupTurning, GroupTurned, AllFit, GroupsTurning, GroupsTurned}

@@ -22,10 +22,10 @@ use Rattle.orders.specs.ById.{byId}
 use Rattle.grouping.specs.Given.{Given}
 use Rattle.grouping.specs.Tree.{runsBefore}
 use Rattle.grouping.specs.Conditions.{sharedId, sharedOrder}
-use Rattle.places.specs.AnyTwo.{anyTwo}
-use Rattle.places.specs.Listed.{listedIn, Kept}
-use Rattle.places.specs.ById.{sameId, Ranks, Rankable}
-use Rattle.places.specs.ByOrder.{sameOrder, runsFirst, Modules, PutByOrder}
+use Rattle.exec_order.specs.AnyTwo.{anyTwo}
+use Rattle.exec_order.specs.Listed.{listedIn, Kept}
+use Rattle.ranks.specs.ById.{sameId, Ranks, Rankable}
+use Rattle.exec_order.specs.ByOrder.{sameOrder, runsFirst, Modules, PutByOrder}
 use Rattle.places.specs.Ordered.{listedOf, HandedIds, HandedOrders, RankedListed, OrderedListed, Hands, answerOf, InOrder}
 use Rattle.places.specs.declared.ordered.Ordered.{Ordered}
 use Rattle.places.specs.declared.ordered.Ordered.the-variants.{SameId}

@@ -18,7 +18,7 @@ use Rattle.refusal.specs.Counts.{moduleLimit, badLength}
 use Rattle.grouping.specs.Given.{Given, isListed, isEligible}
 use Rattle.grouping.specs.Tree.{runsBefore, placesOf}
 use Rattle.grouping.specs.Conditions.{countAbove, badModuleTable, badRecordTable, badTable, badId}
-use Rattle.places.specs.Listed.{Kept, Chosen}
+use Rattle.exec_order.specs.Listed.{Kept, Chosen}
 use Rattle.places.specs.Ordered.{listedOf, Handed, Hands}
 use Rattle.places.proofs.PlacesByOrder.{places-by-order}
 

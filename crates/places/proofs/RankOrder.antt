@@ -16,10 +16,10 @@ use Rattle.lists.proofs.SortPacked.{pack, pack-apart, packed-sort}
 use Rattle.ids.specs.Parts.{idAt}
 use Rattle.ids.proofs.ByteOrder.{before-irrefl, before-asym}
 use Rattle.orders.specs.ById.{byId}
-use Rattle.places.specs.AnyTwo.{anyTwo}
-use Rattle.places.specs.ById.{sameId, Ranks}
+use Rattle.exec_order.specs.AnyTwo.{anyTwo}
+use Rattle.ranks.specs.ById.{sameId, Ranks}
 use Rattle.places.specs.Ordered.{ranksSorted}
-use Rattle.places.proofs.SameIds.{in-id-order, untied-rises, ties-share}
+use Rattle.ranks.proofs.SameIds.{in-id-order, untied-rises, ties-share}
 
 module _ (bytes offsets list : List ℕ) {rank₀ rank : List ℕ} (ranks : Ranks (sortBy (byId bytes offsets) list) rank₀ rank) where
   abbrev rankOf : ℕ → ℕ

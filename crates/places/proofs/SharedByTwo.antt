@@ -10,11 +10,11 @@ use Rattle.lists.proofs.Members.{mem-range, mem-keep}
 use Rattle.lists.proofs.Sort.{Pairs, pairs-kept}
 use Rattle.grouping.specs.Given.{Given, isListed}
 use Rattle.grouping.specs.Conditions.{twoListed, sharedId, sharedOrder}
-use Rattle.places.specs.AnyTwo.{anyTwo}
-use Rattle.places.specs.ById.{sameId}
-use Rattle.places.specs.ByOrder.{sameOrder}
+use Rattle.exec_order.specs.AnyTwo.{anyTwo}
+use Rattle.ranks.specs.ById.{sameId}
+use Rattle.exec_order.specs.ByOrder.{sameOrder}
 use Rattle.places.specs.Ordered.{listedOf}
-use Rattle.places.proofs.TwoOf.{same-answer, none-two, two-none, pairs-of}
+use Rattle.exec_order.proofs.TwoOf.{same-answer, none-two, two-none, pairs-of}
 
 module _ (b : Given) where
   pub listed-mem : (m : ℕ) → m < b .shared .n → isListed b m ≡ true → List·Memᴰ m (listedOf b)

@@ -14,10 +14,10 @@ use Rattle.orders.specs.ById.{byId, GoodTable}
 use Rattle.grouping.specs.Given.{Given, isListed}
 use Rattle.grouping.specs.Tree.{runsBefore}
 use Rattle.grouping.specs.Conditions.{sharedId, sharedOrder}
-use Rattle.places.specs.AnyTwo.{anyTwo}
-use Rattle.places.specs.Listed.{listedIn}
-use Rattle.places.specs.ByOrder.{sameOrder, runsFirst}
-use Rattle.places.specs.ById.{Ranks, RankedById}
+use Rattle.exec_order.specs.AnyTwo.{anyTwo}
+use Rattle.exec_order.specs.Listed.{listedIn}
+use Rattle.exec_order.specs.ByOrder.{sameOrder, runsFirst}
+use Rattle.ranks.specs.ById.{Ranks, RankedById}
 use Rattle.places.specs.declared.ordered.Ordered.{Ordered}
 use Rattle.places.specs.declared.ordered.Ordered.the-variants.{SameId, SameOrder, Listed}
 

@@ -1,7 +1,7 @@
 // Both orders at once, for a call of Chunks.
-use crate::by_id::rank_by_id;
-use crate::by_order::put_by_order;
-use crate::listed::list_modules;
+use exec_order::by_order::put_by_order;
+use exec_order::listed::list_modules;
+use ranks::by_id::rank_by_id;
 ghost use Rattle.grouping.specs.Given.{Given};
 ghost use Rattle.places.specs.Ordered.{HandedIds, HandedOrders, Handed, RankedListed, OrderedListed, Hands, InOrder};
 

@@ -15,7 +15,7 @@ use Rattle.grouping.specs.Tree.{runsBefore, placesOf}
 use Rattle.emitting.specs.Emitted.{Work}
 use Rattle.linking.proofs.ChunkModules.{places-distinct}
 use Rattle.linking.proofs.Untaken.{places-count}
-use Rattle.places.specs.Listed.{Kept, Chosen}
+use Rattle.exec_order.specs.Listed.{Kept, Chosen}
 use Rattle.places.specs.Ordered.{listedOf}
 use Rattle.places.proofs.OfBuild.{order-chosen, order-places}
 use Rattle.running.specs.State.{Roomy}

@@ -7,7 +7,7 @@ use Rattle.refusal.specs.Counts.{moduleLimit, groupLimit}
 use Rattle.grouping.specs.Given.{Given, Areas}
 use Rattle.grouping.specs.Conditions.{pairs, scratchNeed, stateTests}
 use Rattle.conditions.specs.declared.AreaLengths.{AreaLengths}
-use Rattle.conditions.specs.HandsIn.{pairLimit}
+use Rattle.sums.specs.HandsIn.{pairLimit}
 use Rattle.conditions.specs.Ladder.{HandsAreas}
 use Rattle.refusal.specs.Outcome.{firstNumber}
 use Rattle.testing.specs.Tested.{HandsState}

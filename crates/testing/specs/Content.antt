@@ -10,7 +10,8 @@ use Rattle.options.specs.declared.Options.{Options}
 use Rattle.options.specs.Tables.{GroupTables}
 use Rattle.grouping.specs.Given.{Given}
 use Rattle.grouping.specs.Conditions.{badLimit}
-use Rattle.conditions.specs.HandsIn.{HasGroups, HandsSizes, HandsRecords, HandsBits, HandsOptions, HandsAnswers}
+use Rattle.sums.specs.HandsIn.{HandsSizes, HandsAnswers}
+use Rattle.conditions.specs.HandsIn.{HasGroups, HandsRecords, HandsBits, HandsOptions}
 use Rattle.conditions.specs.Ladder.{treeTests, valueTests}
 
 unfoldable pub contentTests : Given → List Test

@@ -11,7 +11,8 @@ use Rattle.grouping.specs.Tree.{runsBefore}
 use Rattle.grouping.specs.Conditions.{sharedId, sharedOrder, inputTests}
 use Rattle.settling.specs.Modules as settling
 use Rattle.conditions.specs.declared.AreaLengths.{AreaLengths}
-use Rattle.conditions.specs.HandsIn.{HandsRows, areaLengths}
+use Rattle.sums.specs.HandsIn.{HandsRows}
+use Rattle.conditions.specs.HandsIn.{areaLengths}
 use Rattle.places.specs.Ordered.{listedOf, BothOrders}
 use Rattle.testing.specs.declared.Tested.{Tested}
 use Rattle.testing.specs.declared.Tested.the-variants.{Refused, Passed}

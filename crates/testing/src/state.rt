@@ -1,12 +1,12 @@
 // 11 to 13: the conditions of the state, for a build that passed those of the input.
 use conditions::AreaLengths;
 use conditions::ladder::state_number;
-use conditions::names::count_pairs;
+use sums::names::count_pairs;
 ghost use mathlib.Core.Path.{_≡_};
 ghost use Rattle.grouping.specs.Given.{Given, Areas};
 ghost use Rattle.grouping.specs.Conditions.{scratchNeed, stateTests};
 ghost use Rattle.refusal.specs.Outcome.{firstNumber};
-ghost use Rattle.conditions.specs.Names.{AnswersWithin};
+ghost use Rattle.sums.specs.Names.{AnswersWithin};
 ghost use Rattle.testing.specs.Tested.{HandsState};
 
 // The number of the first that applies, and 0 if none does. The scratch is given by its length.

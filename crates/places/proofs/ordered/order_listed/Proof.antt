@@ -3,9 +3,9 @@ use Prim.Native.Nat.{ℕ}
 use mathlib.Core.List.{List}
 use mathlib.Core.Path.{sym, subst}
 use native.Mathlib.Omega.{arith}
-use Rattle.places.specs.ByOrder.{Modules}
+use Rattle.exec_order.specs.ByOrder.{Modules}
 use Rattle.places.specs.Ordered.{answerOf}
-use Rattle.places.proofs.Keeping.{kept-fits, kept-length}
+use Rattle.exec_order.proofs.Keeping.{kept-fits, kept-length}
 use Rattle.places.proofs.Handing.{listed-length, listed-modules, listed-in-order}
 use borrow.Author.Needs.{needs}
 use Rattle.places.proofs.ordered.order_listed.Statement.{statement}

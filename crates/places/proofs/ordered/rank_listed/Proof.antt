@@ -3,8 +3,8 @@ use Prim.Native.Nat.{ℕ}
 use mathlib.Core.List.{List}
 use mathlib.Core.Path.{sym, subst}
 use native.Mathlib.Omega.{arith}
-use Rattle.places.specs.ById.{Rankable}
-use Rattle.places.proofs.Keeping.{kept-fits, kept-length}
+use Rattle.ranks.specs.ById.{Rankable}
+use Rattle.exec_order.proofs.Keeping.{kept-fits, kept-length}
 use Rattle.places.proofs.Handing.{listed-length, listed-rankable}
 use borrow.Author.Needs.{needs}
 use Rattle.places.proofs.ordered.rank_listed.Statement.{statement}

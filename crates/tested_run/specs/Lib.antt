@@ -1,0 +1,2 @@
+-- What the run of a tested build is handed.
+pub mod RunInput
