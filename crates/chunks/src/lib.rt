@@ -1,11 +1,11 @@
 // The call Chunks: everything handed in is tested, and a build that is not turned away is run.
 use conditions::AreaLengths;
-use groups::settings::all_settings;
 use options::Options;
 use run::run;
 use testing::Tested;
 use testing::input::test_input;
 use testing::state::test_state;
+use turns::settings::all_settings;
 ghost use Rattle.grouping.specs.Call.{ChunksCall};
 ghost use Rattle.grouping.specs.Conditions.{scratchNeed};
 ghost use Rattle.chunks.specs.Answer.{outcomeOf};

@@ -1,12 +1,12 @@
 // A run of Chunks over a build that has passed the tests: its chunks are made, and every area is written.
 
 use groups::convert::convert_groups_to_chunks;
-use groups::turns::into_priority_sorted_groups;
 use index::ChunkIdx;
 use linking::link;
 use lists::fill::clear_words;
 use options::Settings;
 use places::listed::keep_eligible;
+use turns::into_priority_sorted_groups;
 ghost use Rattle.run.specs.Made.{Making, ChunksMade};
 ghost use Rattle.run.specs.Finished.{Finishing, Finished};
 ghost use Rattle.run.specs.Ran.{Running, RunWritten};

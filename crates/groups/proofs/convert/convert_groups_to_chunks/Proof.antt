@@ -9,8 +9,8 @@ use Rattle.lists.proofs.Stored.{zeros}
 use Rattle.capture.specs.Followed.{unfollowed}
 use Rattle.capture.proofs.Trail.{unfollowed-bytes}
 use Rattle.emitting.proofs.Chunk.{SameLengths, same-lengths}
-use Rattle.names.specs.Closed.{Closed}
-use Rattle.names.proofs.ClosedSets.{closed-none, closed-as}
+use Rattle.closed.specs.Closed.{Closed}
+use Rattle.closed.proofs.ClosedSets.{closed-none, closed-as}
 use Rattle.names.proofs.OrderOf.{places-free}
 use Rattle.groups.proofs.Turning.{TurnsTo, none-turned, next-turning, one-turned, all-turned, number-small, record-in}
 use Rattle.groups.proofs.Turning.{given-few, given-flags, group-small, row-small, row-within}
