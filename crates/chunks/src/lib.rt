@@ -5,6 +5,7 @@ use tested_run::run_tested;
 use testing::Tested;
 use testing::input::test_input;
 use testing::state::test_state;
+use turns::settings::all_settings;
 ghost use Rattle.grouping.specs.Call.{ChunksCall};
 ghost use Rattle.grouping.specs.Conditions.{scratchNeed};
 ghost use Rattle.chunks.specs.Answer.{outcomeOf};

@@ -1,9 +1,5 @@
 -- The groups of a build in the order of their turns, and what each is matched by.
-pub mod Keying
-pub mod TurnOrder
-pub mod SettingsTable
 pub mod GroupReady
 pub mod GroupTurn
 pub mod Turning
-pub mod TurnsOfBuild
 pub mod AllGroups

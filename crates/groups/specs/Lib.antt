@@ -1,3 +1,2 @@
 -- The groups of a build on their turns.
-pub mod Order
 pub mod Turn

@@ -14,7 +14,7 @@ use Rattle.sets.specs.OfBuild.{answersOf}
 use Rattle.running.specs.Fits.{ItemFits, Walking, WalkFits}
 use Rattle.running.specs.State.{Advance}
 use Rattle.running.specs.Turns.{Turning}
-use Rattle.groups.specs.Order.{AreSettings}
+use Rattle.turns.specs.Order.{AreSettings}
 
 -- what a group is matched by: answers, and the modules' tags and share counts
 pub record Asked : Type 0 where

@@ -9,7 +9,7 @@ ghost use mathlib.Core.Path.{_≡_};
 ghost use Prim.Native.Nat.{_*_, _≤_};
 ghost use lib.ListN.{length};
 ghost use Rattle.forget.specs.Unfollowed.{unfollowed};
-ghost use Rattle.names.specs.Closed.{Closed};
+ghost use Rattle.closed.specs.Closed.{Closed};
 ghost use Rattle.names.specs.Turn.{NamesRoom};
 ghost use Rattle.groups.specs.Turn.{GroupTurning, GroupTurned, GroupsTurning, GroupsTurned};
 

@@ -1,4 +1,2 @@
 // The groups turned into chunks, in the order of their priority.
 pub mod convert;
-pub mod settings;
-pub mod turns;

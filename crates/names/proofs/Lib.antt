@@ -1,7 +1,7 @@
 -- The names of a group have their turns one after another.
 pub mod Matched
 pub mod OneSet
-pub mod ClosedSets
+pub mod Passing
 pub mod Staying
 pub mod OrderOf
 pub mod SetOfRun

@@ -35,12 +35,12 @@ use Rattle.running.specs.State.{Advance, Begun}
 use Rattle.matching.specs.Matched.{RunEnd}
 use Rattle.sets.specs.Built.{SetBuilt}
 use Rattle.sets.proofs.NamesMatched.{names-matched}
-use Rattle.names.specs.Closed.{closes, liveBy, closedAfter, Closed}
+use Rattle.closed.specs.Closed.{closes, liveBy, closedAfter, Closed}
 use Rattle.names.specs.Turn.{SetOffered, SetTaken, GroupFits, NamesTurning, NamesTurned}
 use Rattle.running.proofs.Advancing.{advance-none, advance-same, advance-then, begun-next, begun-number, begun-place}
 use Rattle.names.proofs.Matched.{matched-name}
 use Rattle.running.proofs.ItemTurn.{turn-entries}
-use Rattle.names.proofs.ClosedSets.{Passing, passing-by, closed-next}
+use Rattle.names.proofs.Passing.{Passing, passing-by, closed-next}
 use Rattle.names.proofs.OrderOf.{module-in}
 use Rattle.names.proofs.Staying.{numbers-stay}
 use Rattle.names.proofs.SetOfRun.{order-all, run-is, set-stands, set-mem, set-in, places-placed}

@@ -40,9 +40,10 @@ use Rattle.sets.specs.OfBuild.{matchingOf, matchedOf, runOf}
 use Rattle.sets.proofs.FromPassed.{flag-bytes, record-tables}
 use Rattle.sets.proofs.NamesMatched.{run-rises}
 use Rattle.sets.proofs.BuiltSets.{set-left, set-built}
-use Rattle.names.specs.Closed.{closes, Closed}
+use Rattle.closed.specs.Closed.{closes, Closed}
 use Rattle.names.specs.Turn.{Stands, GroupFits}
-use Rattle.names.proofs.ClosedSets.{Passing, eligible-in, left-reached, closes-recursive, closes-plain}
+use Rattle.closed.proofs.ClosedSets.{eligible-in, left-reached, closes-recursive, closes-plain}
+use Rattle.names.proofs.Passing.{Passing}
 use Rattle.names.proofs.Matched.{matched-few, matched-place}
 use Rattle.names.proofs.OrderOf.{order-small, module-in}
 

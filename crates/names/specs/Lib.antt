@@ -1,3 +1,2 @@
 -- The sets of one group on their turns.
-pub mod Closed
 pub mod Turn

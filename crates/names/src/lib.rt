@@ -1,10 +1,8 @@
 // The sets of one group turned into chunks, name by name.
-pub mod closed;
-
-use crate::closed::build_left;
-use crate::closed::can_close;
-use crate::closed::close_set;
 use bitset::entries::BitSet;
+use closed::build_left;
+use closed::can_close;
+use closed::close_set;
 use emitting::emit::Head;
 use entries_aware::convert_subgroups;
 use index::ChunkIdx;
@@ -18,7 +16,7 @@ ghost use Prim.Native.Nat.{_*_, _≤_};
 ghost use lib.ListN.{length};
 ghost use Rattle.forget.specs.Unfollowed.{unfollowed};
 ghost use Rattle.grouping.specs.WorkList.{itemsOfSet};
-ghost use Rattle.names.specs.Closed.{Closed};
+ghost use Rattle.closed.specs.Closed.{Closed};
 ghost use Rattle.names.specs.Turn.{SetOffered, SetTaken, NamesTurning, NamesRoom, NamesTurned};
 
 // One set turned into chunks: an item, or its subgroups. A set that is one item may lack modules that have a chunk.

@@ -35,7 +35,7 @@ use Rattle.running.specs.State.{Roomy, State}
 use Rattle.running.proofs.Tests.{passed-sound}
 use Rattle.running.proofs.ItemStep.{state-start}
 use Rattle.running.proofs.StateLeft.{settling-room}
-use Rattle.groups.specs.Order.{AreSettings}
+use Rattle.turns.specs.Order.{AreSettings}
 use Rattle.groups.specs.Turn.{AllFit, GroupsTurning, GroupsTurned}
 use Rattle.run.specs.Fits.{RunTables, TablesFit}
 use Rattle.run.proofs.Zeros.{cleared-modules}

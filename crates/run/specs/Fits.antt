@@ -11,7 +11,7 @@ use Rattle.settling.specs.Modules.{Passed}
 use Rattle.items.specs.Turn.{Tables}
 use Rattle.places.specs.Ordered.{listedOf}
 use Rattle.running.specs.Fits.{Ranks, Walking}
-use Rattle.groups.specs.Order.{AreSettings}
+use Rattle.turns.specs.Order.{AreSettings}
 use Rattle.groups.specs.Turn.{Asked}
 
 -- the tables of a run: the settings of the groups and what they are matched by, the modules' ids, sizes, ranks and entry bits, and what sets are

@@ -2,11 +2,11 @@
 
 use exec_order::listed::keep_eligible;
 use groups::convert::convert_groups_to_chunks;
-use groups::turns::into_priority_sorted_groups;
 use index::ChunkIdx;
 use linking::link;
 use lists::fill::clear_words;
 use options::Settings;
+use turns::into_priority_sorted_groups;
 ghost use Rattle.run.specs.Made.{Making, ChunksMade};
 ghost use Rattle.run.specs.Finished.{Finishing, Finished};
 ghost use Rattle.run.specs.Ran.{Running, RunWritten};

@@ -11,7 +11,7 @@ use Rattle.grouping.specs.Settings.{settingsOf}
 use Rattle.conditions.specs.HandsIn.{HasGroups}
 use Rattle.conditions.proofs.CountsLeft.{counts-passed}
 use Rattle.conditions.proofs.TablesLeft.{tables-passed}
-use Rattle.groups.specs.Order.{AreSettings}
+use Rattle.turns.specs.Order.{AreSettings}
 use Rattle.run.specs.Fits.{RunTables, RunFits}
 use Rattle.tested_run.specs.RunInput.{RunInput, InputFits}
 

@@ -1,5 +1,5 @@
 // The run of a build that has passed the tests, under the settings of its groups.
-use groups::settings::all_settings;
+use turns::settings::all_settings;
 use options::Options;
 use run::run;
 ghost use Rattle.tested_run.specs.RunInput.{Runnable, TestedRan};

@@ -9,8 +9,8 @@ use lib.ListN.{length, take, drop, replicate, length-replicate}
 use lib.Seq.{length-take-le, length-front}
 use Rattle.forget.specs.Unfollowed.{unfollowed}
 use Rattle.walk.proofs.Trail.{unfollowed-bytes}
-use Rattle.names.specs.Closed.{Closed}
-use Rattle.names.proofs.ClosedSets.{live-bytes, closed-as}
+use Rattle.closed.specs.Closed.{Closed}
+use Rattle.closed.proofs.ClosedSets.{live-bytes, closed-as}
 use Rattle.names.proofs.SetOfRun.{run-is, set-ready}
 use Rattle.names.proofs.NameSteps.{NamesDone, names-start, number-now, place-now, count-in, number-next, names-next, names-turned}
 use Rattle.names.proofs.NameSteps.{set-entries, set-flags, set-offered, closed-then}

@@ -1,0 +1,2 @@
+-- The laws of closed sets.
+pub mod ClosedSets

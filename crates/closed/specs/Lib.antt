@@ -1,0 +1,2 @@
+-- Closed sets, and sets found past them.
+pub mod Closed
