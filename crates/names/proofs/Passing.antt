@@ -5,7 +5,7 @@ use mathlib.Core.List.{List, List·Memᴰ}
 use mathlib.Core.Path.{_≡_, refl, sym, _∙_, subst}
 use lib.ListN.{length, getD, take}
 use Rattle.lists.specs.Stored.{stored}
-use Rattle.capture.specs.Capture.{Eligible}
+use Rattle.walk.specs.Names.{Eligible}
 use Rattle.options.specs.declared.Settings.{Settings}
 use Rattle.running.specs.Fits.{Walking}
 use Rattle.sets.specs.Built.{startsOf, SetBuilt}

@@ -1,7 +1,7 @@
 // The run of a build that has passed the tests, under the settings of its groups.
-use turns::settings::all_settings;
 use options::Options;
 use run::run;
+use turns::settings::all_settings;
 ghost use Rattle.tested_run.specs.RunInput.{Runnable, TestedRan};
 
 // Runs a build that has passed the tests. The first new chunk has the record `at`. Answers how many chunks there are.

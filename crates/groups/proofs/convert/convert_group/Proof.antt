@@ -90,22 +90,8 @@ returns c =
     let called = c .before .before .before .before .before .before .before .before .before .before .before .before .before .before .before .before .before
     .before .before .before in
     let m = called .before .before .before .before .before .before .before .before .before .before .before .before .before in
-    let a = start m .args in
     let e = called .convert-names .ensures in
-    let l = called .convert-names .last .1 .1 .1 .1 .1 .1 .1 .1 .1 .1 .1 .1 .1 .1 .1 .1 .1 .1 .1 .1 .1 .1 in (
-      group-turned {t = record { bytes = a .bytes .now; offsets = a .offsets .now; sizes = a .sizes .now; rank = a .rank .now }}
-          {w = record { flags = a .flags .now; first = a .first .now; dependency = a .dependency .now; next = a .next .now; order = a .order .now }}
-          {bits = a .bits .now} {settings = a .settings} {group = a .group} (m .match-group .ensures) {number = a .number .0} {at = a .at}
-          {entry = record {
-            chunk-of = a .chunk-of .now;
-            group-of = a .group-of .now;
-            name-of = a .name-of .now;
-            size-of = a .size-of .now;
-            bits-of = a .bits-of .now;
-          }}
-          {exit = record { chunk-of = l .0; group-of = l .1 .0; name-of = l .1 .1 .0; size-of = l .1 .1 .1 .0; bits-of = l .1 .1 .1 .1 .0 }} (e .0),
-      e .1,
-    )
+    (group-turned (m .match-group .ensures) (e .0), e .1)
 
 pub convert-group-spec : {M : Type 1} → statement M
 convert-group-spec =

@@ -8,8 +8,7 @@ use lib.Seq.{length-take-le, length-front, take-at}
 use Rattle.lists.proofs.Stored.{zeros}
 use Rattle.forget.specs.Unfollowed.{unfollowed}
 use Rattle.walk.proofs.Trail.{unfollowed-bytes}
-use Rattle.emitting.specs.Emitted.{Work}
-use Rattle.emitting.proofs.Chunk.{SameLengths, same-lengths, lengths-kept}
+use Rattle.emitting.proofs.Chunk.{SameLengths, same-lengths}
 use Rattle.closed.specs.Closed.{Closed}
 use Rattle.closed.proofs.ClosedSets.{closed-none, closed-as}
 use Rattle.names.proofs.OrderOf.{places-free}
@@ -50,17 +49,6 @@ start k = k .before .before .before .before .before .before .before .before .bef
 
 abbrev turn : tie.After-convert-group Inv-loop μ-loop → tie.In-loop Inv-loop μ-loop
 turn m = m .before .before .before .before .before .before .before .before .before .before .before .before .before .before .before .before .before
-
--- the areas before the turn, and after its call
-abbrev areas : tie.In-loop Inv-loop μ-loop → Work
-areas k =
-    let l = k .before .loop in
-    record { chunk-of = l .chunk-of; group-of = l .group-of; name-of = l .name-of; size-of = l .size-of; bits-of = l .bits-of }
-
-abbrev left : tie.After-convert-group Inv-loop μ-loop → Work
-left m =
-    let w = m .convert-group .last .1 .1 .1 .1 .1 .1 .1 .1 .1 .1 .1 .1 .1 .1 .1 .1 .1 .1 .1 .1 .1 .1 .1 .1 in
-    record { chunk-of = w .0; group-of = w .1 .0; name-of = w .1 .1 .0; size-of = w .1 .1 .1 .0; bits-of = w .1 .1 .1 .1 .0 }
 
 -- the front of an area of zeros
 zeros-long : {n : ℕ} → n ≤ 4096 → n ≤ length (replicate {A = ℕ} 4096 0)
@@ -232,16 +220,9 @@ add-made c =
     let m = c .before .before .before .before .before .before .before .before .before .before .before .before .before .before .before .before in
     let k = turn m in
     let l = k .before .loop in
-    let r = m .convert-group in
-    let next = one-turned {now = areas k} (l .inv .0) _ (k .loop-test .taken) {more = r .result} {exit = left m} (r .ensures .0) in
-    let kept = r .kept .1 .1 .1 .1 .1 .1 .1 .1 .1 .1 .1 .1 .1 .1 .1 .1 .1 .1 .1 .1 .1 .1 .1 .1 .1 .0 in
-    omega (
-      arith,
-      record-in {now = left m} next (start k .pre .0),
-      l .inv .1 .group-of,
-      kept,
-      start k .good .1 .1 .1 .1 .1 .1 .1 .1 .1 .1 .1 .1 .1 .1 .1 .1 .1 .1 .1 .1 .0,
-    )
+    let next = one-turned (l .inv .0) _ (k .loop-test .taken) (m .convert-group .ensures .0) in
+    let kept = m .convert-group .kept .1 .1 .1 .1 .1 .1 .1 .1 .1 .1 .1 .1 .1 .1 .1 .1 .1 .1 .1 .1 .1 .1 .1 .1 .1 .0 in
+    omega (arith, record-in next (start k .pre .0), l .inv .1 .group-of, kept, start k .good .1 .1 .1 .1 .1 .1 .1 .1 .1 .1 .1 .1 .1 .1 .1 .1 .1 .1 .1 .1 .0)
 
 add-i : tie.Need-add-i Inv-loop μ-loop
 add-i c =
@@ -258,22 +239,24 @@ loop-again c =
     let l = k .before .loop in
     let r = m .convert-group in
     let same = l .inv .1 in
-    let kept = r .kept .1 .1 .1 .1 .1 .1 .1 .1 .1 .1 .1 .1 .1 .1 .1 .1 .1 .1 .1 in
-    let last = r .last .1 .1 .1 .1 .1 .1 .1 .1 .1 .1 .1 .1 .1 .1 .1 .1 .1 .1 .1 in
-    let a = start k .args in
-    let n = a .n in
-    let w = kept .1 .1 .1 .1 .1 in
+    let marks = r .last .1 .1 .1 .1 .1 .1 .1 .1 .1 .1 .1 .1 .1 .1 .1 .1 .1 .1 .1 .1 .0 in
+    let front = r .last .1 .1 .1 .1 .1 .1 .1 .1 .1 .1 .1 .1 .1 .1 .1 .1 .1 .1 .1 .0 in
+    let n = start k .args .n in
     let fits = length-take-le n (l .closed) (omega (arith, given-few (start k .pre .0), l .inv .6)) in (
-      one-turned {now = areas k} (l .inv .0) _ (k .loop-test .taken) {more = r .result} {exit = left m} (r .ensures .0),
-      lengths-kept {u = left m} {v = areas k}
-          (record { chunk-of = w .0; group-of = w .1 .0; name-of = w .1 .1 .0; size-of = w .1 .1 .1 .0; bits-of = w .1 .1 .1 .1 .0 }) same,
-      _∙_ {b = length (l .scratch)} (kept .1 .1 .1 .1 .0) (l .inv .2),
-      _∙_ {b = length (l .marks)} (length-front (l .marks) (last .1 .0) n (kept .1 .0)) (l .inv .3),
-      _∙_ {b = length (l .set)} (kept .1 .1 .1 .0) (l .inv .4),
+      one-turned (l .inv .0) _ (k .loop-test .taken) (r .ensures .0),
+      record {
+        chunk-of = r .kept .1 .1 .1 .1 .1 .1 .1 .1 .1 .1 .1 .1 .1 .1 .1 .1 .1 .1 .1 .1 .1 .1 .1 .1 .0 ∙ same .chunk-of;
+        group-of = r .kept .1 .1 .1 .1 .1 .1 .1 .1 .1 .1 .1 .1 .1 .1 .1 .1 .1 .1 .1 .1 .1 .1 .1 .1 .1 .0 ∙ same .group-of;
+        name-of = r .kept .1 .1 .1 .1 .1 .1 .1 .1 .1 .1 .1 .1 .1 .1 .1 .1 .1 .1 .1 .1 .1 .1 .1 .1 .1 .1 .0 ∙ same .name-of;
+        size-of = r .kept .1 .1 .1 .1 .1 .1 .1 .1 .1 .1 .1 .1 .1 .1 .1 .1 .1 .1 .1 .1 .1 .1 .1 .1 .1 .1 .1 .0 ∙ same .size-of;
+        bits-of = r .kept .1 .1 .1 .1 .1 .1 .1 .1 .1 .1 .1 .1 .1 .1 .1 .1 .1 .1 .1 .1 .1 .1 .1 .1 .1 .1 .1 .1 .0 ∙ same .bits-of;
+      },
+      r .kept .1 .1 .1 .1 .1 .1 .1 .1 .1 .1 .1 .1 .1 .1 .1 .1 .1 .1 .1 .1 .1 .1 .1 .0 ∙ l .inv .2,
+      length-front (l .marks) marks n (r .kept .1 .1 .1 .1 .1 .1 .1 .1 .1 .1 .1 .1 .1 .1 .1 .1 .1 .1 .1 .1 .0) ∙ l .inv .3,
+      r .kept .1 .1 .1 .1 .1 .1 .1 .1 .1 .1 .1 .1 .1 .1 .1 .1 .1 .1 .1 .1 .1 .1 .0 ∙ l .inv .4,
       r .ensures .1 .3,
-      _∙_ {b = length (l .closed)} (length-front (l .closed) (last .0) n (kept .0)) (l .inv .6),
-      closed-as {flags = a .flags .now} {first = a .first .now} {dependency = a .dependency .now} {next = a .next .now} {want = last .0}
-          {chunk-of = left m .chunk-of} (take-at (last .0) (drop n (l .closed)) n (_∙_ {b = length (take n (l .closed))} (kept .0) fits)) (r .ensures .1 .4),
+      length-front (l .closed) front n (r .kept .1 .1 .1 .1 .1 .1 .1 .1 .1 .1 .1 .1 .1 .1 .1 .1 .1 .1 .1 .0) ∙ l .inv .6,
+      closed-as (take-at front (drop n (l .closed)) n (r .kept .1 .1 .1 .1 .1 .1 .1 .1 .1 .1 .1 .1 .1 .1 .1 .1 .1 .1 .1 .0 ∙ fits)) (r .ensures .1 .4),
     )
 
 same-length : tie.Need-same-length Inv-loop μ-loop
