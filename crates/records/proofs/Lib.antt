@@ -1,5 +1,6 @@
 -- The laws of the definitions of specs/.
 pub mod Chain
+pub mod Ascending
 pub mod Ends
 pub mod ChainMarks
 pub mod Known

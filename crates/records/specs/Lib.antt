@@ -1,4 +1,5 @@
 -- Dependency records and their chains.
 pub mod Chain
+pub mod Ascending
 pub mod Bad
 pub mod Marks

@@ -6,6 +6,7 @@ ghost use lib.ListN.{length};
 ghost use Rattle.records.specs.Chain.{chainFrom};
 ghost use Rattle.records.specs.Marks.{Unmarked, KnowReady};
 ghost use Rattle.lists.specs.Stored.{stored};
+ghost use Rattle.records.specs.Ascending.{allAscend};
 ghost use Rattle.records.specs.Bad.{badFirst, badRecord, badChain, badRecords, RecordTables, ChainTables};
 
 // A first record above d. All are looked at, also behind a bad one: so several are compared at once.
@@ -34,6 +35,21 @@ fn bad_record(dependency: &[u32], next: &[u32], n: usize, d: usize) -> bool
         k = k + 1;
     }
     bad
+}
+
+// Each record from 1 to d ends its chain or is followed by a later record. All are looked at, with their numbers in 32 bits as in the table.
+fn all_ascend(next: &[u32], d: usize) -> bool
+    requires { ⌜ (d ≤ 65535) × (length (now next) ≡ d + 1) ⌝ }
+    ensures { λ r. ⌜ r ≡ allAscend (now (next .entry)) d ⌝ }
+{
+    let mut all = true;
+    let mut r = 0;
+    while r < d {
+        r = r + 1;
+        let after = next[r];
+        all = ((after == 0) | ((r as u32) < after)) & all;
+    }
+    all
 }
 
 // The records of a chain that ends are marked as known to end, up to its zero or to one that is known already.
@@ -88,7 +104,7 @@ fn any_bad_chain(first: &[u32], next: &[u32], n: usize, d: usize) -> bool
     bad_chain(first, next, n, d, &mut known)
 }
 
-// Refusal 7.
+// Refusal 7. A chain whose records ascend ends, so chains are gone along only where some record does not ascend.
 pub fn bad_records(first: &[u32], dependency: &[u32], next: &[u32], n: usize, d: usize) -> bool
     requires { ⌜ RecordTables (now first) (now dependency) (now next) n d ⌝ }
     ensures { λ r. ⌜ r ≡ badRecords (now (first .entry)) (now (dependency .entry)) (now (next .entry)) n d ⌝ }
@@ -98,6 +114,9 @@ pub fn bad_records(first: &[u32], dependency: &[u32], next: &[u32], n: usize, d:
     }
     if bad_record(dependency, next, n, d) {
         return true;
+    }
+    if all_ascend(next, d) {
+        return false;
     }
     any_bad_chain(first, next, n, d)
 }
