@@ -27,6 +27,9 @@ marks-front part rest e x =
           ⊎-elim (λ p. inl (q ∙ p .0, p .1)) (λ p. inr (q ∙ p .0, p .1)) (x .each m h);
     }
 
+modules-within : (n d : ℕ) → badCounts n d ≡ false → n ≤ moduleLimit
+modules-within n d e = ltb-false moduleLimit n (neither (ltb moduleLimit n) (ltb recordLimit d) e .0)
+
 pub records-within : (n d : ℕ) → badCounts n d ≡ false → d ≤ recordLimit
 records-within n d e = ltb-false recordLimit d (neither (ltb moduleLimit n) (ltb recordLimit d) e .1)
 
@@ -41,7 +44,13 @@ module _ (flags first dependency next : List ℕ) (n d : ℕ) (e : badLengths fl
   record-tables counts =
       let t = first-length (length first) n _ (others .1) in
       let u = first-length (length dependency) (d + 1) _ (t .1) in
-      record { few = records-within n d counts; firsts = t .0; modules = u .0; nexts = right-length (length next) (d + 1) (u .1) }
+      record {
+        few-modules = modules-within n d counts;
+        few = records-within n d counts;
+        firsts = t .0;
+        modules = u .0;
+        nexts = right-length (length next) (d + 1) (u .1);
+      }
 
 module _ (g : Given) where
   -- the same, with other counts

@@ -7,7 +7,7 @@ use borrow.Author.Tests.{leb-false}
 use lib.Dec.{leb, eqb}
 use lib.ListN.{length, getD}
 use Rattle.lists.proofs.Below.{neither, none-of}
-use Rattle.refusal.specs.Counts.{recordLimit}
+use Rattle.refusal.specs.Counts.{moduleLimit, recordLimit}
 use Rattle.refusal.proofs.Lengths.{first-length as next, right-length as last}
 use Rattle.records.specs.Bad.{RecordTables}
 use Rattle.options.specs.Tables.{GroupTables}
@@ -25,7 +25,8 @@ pub record TablesPassed (b : Given) : Type 0 where
   pub tags : length (b .shared .tags) ≡ b .shared .n
   pub bits : length (b .shared .bits) ≡ 4 * b .shared .n
   pub offsets : length (b .shared .offsets) ≡ b .shared .n + 1
-  pub records : b .shared .d ≤ recordLimit → RecordTables (b .shared .first) (b .shared .dependency) (b .shared .next) (b .shared .n) (b .shared .d)
+  pub records : b .shared .n ≤ moduleLimit → b .shared .d ≤ recordLimit
+      → RecordTables (b .shared .first) (b .shared .dependency) (b .shared .next) (b .shared .n) (b .shared .d)
   pub groups : HasGroups (b .variant .groups) (b .variant .g)
   pub answers : length (b .variant .answers) ≡ b .variant .g * b .shared .n
 
@@ -57,14 +58,15 @@ has-groups t g e i h =
 module _ (b : Given) where
   record-tables : badRecordTable b ≡ false
       → (length (b .shared .offsets) ≡ b .shared .n + 1)
-      × (b .shared .d ≤ recordLimit → RecordTables (b .shared .first) (b .shared .dependency) (b .shared .next) (b .shared .n) (b .shared .d))
+      × (b .shared .n ≤ moduleLimit → b .shared .d ≤ recordLimit
+      → RecordTables (b .shared .first) (b .shared .dependency) (b .shared .next) (b .shared .n) (b .shared .d))
   unfolding badRecordTable
   record-tables e =
       let s = b .shared in
       let o = next (length (s .offsets)) (s .n + 1) _ e in
       let f = next (length (s .first)) (s .n) _ (o .1) in
       let d = next (length (s .dependency)) (s .d + 1) _ (f .1) in
-      (o .0, λ few. record { few = few; firsts = f .0; modules = d .0; nexts = last (length (s .next)) (s .d + 1) (d .1) })
+      (o .0, λ few-modules few. record { few-modules = few-modules; few = few; firsts = f .0; modules = d .0; nexts = last (length (s .next)) (s .d + 1) (d .1) })
 
   pub tables-passed : badTable b ≡ false → TablesPassed b
   unfolding badTable badModuleTable

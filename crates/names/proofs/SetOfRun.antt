@@ -78,6 +78,7 @@ module _ {b : Given} {w : Walking} {settings : Settings} {group : ℕ} {matched 
       (record {
         flag-bytes = refl;
         records = record {
+          few-modules = omega (arith, r .few-modules);
           few = omega (arith, r .few);
           firsts = omega (arith, r .firsts);
           modules = omega (arith, r .modules);

@@ -27,8 +27,9 @@ unfoldable pub badRecords : List ℕ → List ℕ → List ℕ → ℕ → ℕ �
 unfolding badFirst badRecord badChain
 badRecords first dependency next n d = badFirst first n d || (badRecord dependency next n d || badChain first next n d)
 
--- tables of the lengths that n modules and d records imply, of which there are no more than the limit allows
+-- tables of the lengths that n modules and d records imply, of which there are no more than the limits allow
 pub record RecordTables (first dependency next : List ℕ) (n d : ℕ) : Type 0 where
+  pub few-modules : n ≤ 4096
   pub few : d ≤ 65535
   pub firsts : length first ≡ n
   pub modules : length dependency ≡ d + 1

@@ -9,15 +9,16 @@ ghost use Rattle.lists.specs.Stored.{stored};
 ghost use Rattle.records.specs.Ascending.{allAscend};
 ghost use Rattle.records.specs.Bad.{badFirst, badRecord, badChain, badRecords, RecordTables, ChainTables};
 
-// A first record above d. All are looked at, also behind a bad one: so several are compared at once.
+// A first record above d. All are looked at, also behind a bad one, and compared in 32 bits as they lie in the table: so several at once.
 fn bad_first(first: &[u32], n: usize, d: usize) -> bool
-    requires { ⌜ n ≤ length (now first) ⌝ }
+    requires { ⌜ (n ≤ length (now first)) × (d ≤ 65535) ⌝ }
     ensures { λ r. ⌜ r ≡ badFirst (now (first .entry)) n d ⌝ }
 {
+    let last = d as u32;
     let mut bad = false;
     let mut m = 0;
     while m < n {
-        bad = (d < first[m] as usize) | bad;
+        bad = (last < first[m]) | bad;
         m = m + 1;
     }
     bad
@@ -25,19 +26,21 @@ fn bad_first(first: &[u32], n: usize, d: usize) -> bool
 
 // A record from 1 to d with a next above d or a module not below n. All are looked at here too.
 fn bad_record(dependency: &[u32], next: &[u32], n: usize, d: usize) -> bool
-    requires { ⌜ (length (now dependency) ≡ d + 1) × (length (now next) ≡ d + 1) ⌝ }
+    requires { ⌜ (length (now dependency) ≡ d + 1) × (length (now next) ≡ d + 1) × (n ≤ 4096) × (d ≤ 65535) ⌝ }
     ensures { λ r. ⌜ r ≡ badRecord (now (dependency .entry)) (now (next .entry)) n d ⌝ }
 {
+    let last = d as u32;
+    let modules = n as u32;
     let mut bad = false;
     let mut k = 0;
     while k < d {
-        bad = (d < next[k + 1] as usize) | (n <= dependency[k + 1] as usize) | bad;
+        bad = (last < next[k + 1]) | (modules <= dependency[k + 1]) | bad;
         k = k + 1;
     }
     bad
 }
 
-// Each record from 1 to d ends its chain or is followed by a later record. All are looked at, with their numbers in 32 bits as in the table.
+// Each record from 1 to d ends its chain or is followed by a later record. All are looked at here too.
 fn all_ascend(next: &[u32], d: usize) -> bool
     requires { ⌜ (d ≤ 65535) × (length (now next) ≡ d + 1) ⌝ }
     ensures { λ r. ⌜ r ≡ allAscend (now (next .entry)) d ⌝ }

@@ -65,15 +65,18 @@ module _ (b : Given) (ok : Passed b) where
   pub flag-bytes : length (b .variant .flags) ≡ b .shared .n
   flag-bytes = module-tables .0
 
-  -- condition 1: names and records
-  counts-few : (b .shared .k ≤ 65535) × (b .shared .d ≤ 65535)
+  -- condition 1: modules, names and records
+  counts-few : (b .shared .n ≤ 4096) × (b .shared .k ≤ 65535) × (b .shared .d ≤ 65535)
   unfolding countAbove
   counts-few =
-      let groups = neither (ltb moduleLimit (b .shared .n)) _ (ok .counts) .1 in
-      let entries = neither (ltb groupLimit (b .variant .g)) _ groups .1 in
+      let modules = neither (ltb moduleLimit (b .shared .n)) _ (ok .counts) in
+      let entries = neither (ltb groupLimit (b .variant .g)) _ (modules .1) .1 in
       let names = neither (ltb entryLimit (b .shared .e)) _ entries .1 in
-      let records = neither (ltb nameLimit (b .shared .k)) _ names in
-      (ltb-false nameLimit (b .shared .k) (records .0), ltb-false recordLimit (b .shared .d) (records .1))
+      let records = neither (ltb nameLimit (b .shared .k)) _ names in (
+        ltb-false moduleLimit (b .shared .n) (modules .0),
+        ltb-false nameLimit (b .shared .k) (records .0),
+        ltb-false recordLimit (b .shared .d) (records .1),
+      )
 
   pub record-tables : RecordTables (b .shared .first) (b .shared .dependency) (b .shared .next) (b .shared .n) (b .shared .d)
   unfolding badTable badRecordTable
@@ -82,7 +85,7 @@ module _ (b : Given) (ok : Passed b) where
       let o = next (length (s .offsets)) (s .n + 1) _ (neither (badRecordTable b) _ (neither (badModuleTable b) _ (ok .tables) .1) .0) in
       let f = next (length (s .first)) (s .n) _ (o .1) in
       let d = next (length (s .dependency)) (s .d + 1) _ (f .1) in
-      record { few = counts-few .1; firsts = f .0; modules = d .0; nexts = last (length (s .next)) (s .d + 1) (d .1) }
+      record { few-modules = counts-few .0; few = counts-few .2; firsts = f .0; modules = d .0; nexts = last (length (s .next)) (s .d + 1) (d .1) }
 
   -- ---- the answers
 
@@ -129,5 +132,5 @@ module _ (b : Given) (ok : Passed b) where
       sized = omega (arith, module-tables .1);
       shared = omega (arith, module-tables .2);
       whole = size-whole m l e;
-      name = omega (arith, answer-below m l, counts-few .0);
+      name = omega (arith, answer-below m l, counts-few .1);
     }

@@ -112,12 +112,13 @@ module _ (s : Shared) (v : Variant) where
 
     pub content-ready : ContentReady (s .n) (v .g) (s .k) (s .d) (v .flags) (s .sizes) (s .bits) (s .first) (s .dependency) (s .next) (v .groups)
     content-ready =
+        let counts = counts-passed (build s v) (shape-left (build s v) shaped .0) in
         record {
-          names = counts-passed (build s v) (shape-left (build s v) shaped .0) .names;
+          names = counts .names;
           flag-bytes = tables .flag-bytes;
           sizes-of = tables .sizes;
           entry-bits = tables .bits;
-          records = tables .records (counts-passed (build s v) (shape-left (build s v) shaped .0) .records);
+          records = tables .records (counts .modules) (counts .records);
           groups = tables .groups;
         }
 

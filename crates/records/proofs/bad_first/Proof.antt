@@ -5,7 +5,6 @@ use mathlib.Core.List.{List}
 use mathlib.Core.Path.{_≡_, refl, ap, _∙_}
 use native.Mathlib.Numerals.{add-one}
 use native.Mathlib.Omega.{arith}
-use mir.Facts.{fits-32-64}
 use lib.Dec.{ltb}
 use lib.ListN.{getD}
 use Rattle.lists.specs.Below.{anyBelow}
@@ -18,10 +17,13 @@ abbrev above : List ℕ → ℕ → ℕ → Bool
 above first d k = ltb d (getD first k 0)
 
 abbrev Inv-loop : tie.InvT-loop
-Inv-loop first n d bad₀ m₀ bad m = (m ≤ n) × (bad ≡ anyBelow (above first d) m)
+Inv-loop first n d last bad₀ m₀ bad m = (m ≤ n) × (bad ≡ anyBelow (above first d) m)
 
 abbrev μ-loop : tie.MeasureT-loop
-μ-loop first n d bad₀ m₀ bad m = n - m
+μ-loop first n d last bad₀ m₀ bad m = n - m
+
+cast-last : tie.Need-cast-last Inv-loop μ-loop
+cast-last c = omega arith
 
 loop-holds : tie.Need-loop-holds Inv-loop μ-loop
 unfolding anyBelow
@@ -32,9 +34,6 @@ mul-bad c = omega arith
 
 shared-slice-read-bad : tie.Need-shared-slice-read-bad Inv-loop μ-loop
 shared-slice-read-bad c = omega arith
-
-cast-bad : tie.Need-cast-bad Inv-loop μ-loop
-cast-bad c = fits-32-64 (c .shared-slice-known .given _)
 
 add-m : tie.Need-add-m Inv-loop μ-loop
 add-m c = omega arith
@@ -62,10 +61,10 @@ bad-first-spec =
     (tie.spec
     Inv-loop
     μ-loop
+    cast-last
     loop-holds
     mul-bad
     shared-slice-read-bad
-    cast-bad
     add-m
     loop-less
     loop-again

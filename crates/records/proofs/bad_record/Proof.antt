@@ -5,7 +5,6 @@ use mathlib.Core.List.{List}
 use mathlib.Core.Path.{_≡_, refl, ap, _∙_}
 use native.Mathlib.Numerals.{add-one}
 use native.Mathlib.Omega.{arith}
-use mir.Facts.{fits-32-64}
 use lib.Dec.{ltb, leb}
 use lib.ListN.{getD}
 use Rattle.lists.specs.Below.{anyBelow}
@@ -18,10 +17,16 @@ abbrev beyond : List ℕ → List ℕ → ℕ → ℕ → ℕ → Bool
 beyond dependency next n d k = ltb d (getD next (suc k) 0) || leb n (getD dependency (suc k) 0)
 
 abbrev Inv-loop : tie.InvT-loop
-Inv-loop dependency next n d bad₀ k₀ bad k = (k ≤ d) × (bad ≡ anyBelow (beyond dependency next n d) k)
+Inv-loop dependency next n d last modules bad₀ k₀ bad k = (k ≤ d) × (bad ≡ anyBelow (beyond dependency next n d) k)
 
 abbrev μ-loop : tie.MeasureT-loop
-μ-loop dependency next n d bad₀ k₀ bad k = d - k
+μ-loop dependency next n d last modules bad₀ k₀ bad k = d - k
+
+cast-last : tie.Need-cast-last Inv-loop μ-loop
+cast-last c = omega arith
+
+cast-modules : tie.Need-cast-modules Inv-loop μ-loop
+cast-modules c = omega arith
 
 loop-holds : tie.Need-loop-holds Inv-loop μ-loop
 unfolding anyBelow
@@ -36,9 +41,6 @@ mul-bad c = omega arith
 shared-slice-read-bad : tie.Need-shared-slice-read-bad Inv-loop μ-loop
 shared-slice-read-bad c = omega arith
 
-cast-bad : tie.Need-cast-bad Inv-loop μ-loop
-cast-bad c = fits-32-64 (c .shared-slice-known .given _)
-
 add-bad-2 : tie.Need-add-bad-2 Inv-loop μ-loop
 add-bad-2 c = omega arith
 
@@ -47,9 +49,6 @@ mul-bad-2 c = omega arith
 
 shared-slice-read-bad-2 : tie.Need-shared-slice-read-bad-2 Inv-loop μ-loop
 shared-slice-read-bad-2 c = omega arith
-
-cast-bad-2 : tie.Need-cast-bad-2 Inv-loop μ-loop
-cast-bad-2 c = fits-32-64 (c .shared-slice-known2 .given _)
 
 add-k : tie.Need-add-k Inv-loop μ-loop
 add-k c = omega arith
@@ -77,15 +76,15 @@ bad-record-spec =
     (tie.spec
     Inv-loop
     μ-loop
+    cast-last
+    cast-modules
     loop-holds
     add-bad
     mul-bad
     shared-slice-read-bad
-    cast-bad
     add-bad-2
     mul-bad-2
     shared-slice-read-bad-2
-    cast-bad-2
     add-k
     loop-less
     loop-again
