@@ -17,7 +17,6 @@ use Rattle.lists.specs.Area.{Holds}
 use Rattle.matching.specs.Matched.{Matching, keysOf, Matchable}
 use Rattle.matching.proofs.MatchedKeys.{keys-few}
 use Rattle.sets.specs.OfBuild.{matchingOf}
-use Rattle.sets.proofs.FromPassed.{places-few}
 use Rattle.sets.proofs.Ready as ready
 use Rattle.running.specs.Fits.{ItemFits, Walking}
 use Rattle.running.specs.State.{Advance}
@@ -38,21 +37,19 @@ module _ {t : Tables} {w : Walking} {bits : List ℕ} {settings : Settings} {gro
     matching-is : matchingBy t settings asked ≡ matchingOf b group
     matching-is = same-matching (ap (λ (r : Settings). r .filter) (fits .settings-are)) (fits .answers) (fits .tags) (items .sizes) (fits .shares)
 
-    pub group-ready : (matched : List ℕ) → 4096 ≤ length matched → Matchable (matchingBy t settings asked) (w .order) matched
+    pub group-ready : (matched : List ℕ) → length (w .order) ≤ length matched → Matchable (matchingBy t settings asked) (w .order) matched
     group-ready matched u =
         subst₂ (λ (m : Matching) (order : List ℕ). Matchable m order matched) (sym matching-is) (sym (fits .walks .order))
-        (ready.group-ready b (items .passed) group (fits .inside) (omega (arith, places-few b (items .passed))))
+        (ready.group-ready b (items .passed) group (fits .inside) (omega (arith, u, ap length (fits .walks .order))))
 
     module _ {count : ℕ} {area : List ℕ} (held : Holds (foundBy t w settings asked) count area) where
-      pub found-few : count ≤ 4096
+      pub found-few : count ≤ length (w .order)
       found-few =
           omega (
             arith,
             held .number,
             sort-length ltb (keysOf (matchingBy t settings asked) (w .order)),
             keys-few (matchingBy t settings asked) (w .order),
-            ap length (fits .walks .order),
-            places-few b (items .passed),
           )
 
       pub group-fits : GroupFits b w settings group (take count area)

@@ -16,6 +16,7 @@ use Rattle.settling.proofs.LoopSteps.{foldl-at}
 use Rattle.emitting.specs.Emitted.{Work}
 use Rattle.items.specs.Turn.{Tables}
 use Rattle.running.specs.Fits.{ItemFits, Walking}
+use Rattle.sets.proofs.FromPassed.{places-few}
 use Rattle.sums.proofs.RowCount.{row-bound}
 use Rattle.running.specs.State.{Advance, Begun}
 use Rattle.running.proofs.Advancing.{advance-none, advance-then, advance-same, begun-next, begun-number, begun-place}
@@ -57,6 +58,9 @@ module _ {t : Tables} {w : Walking} {bits : List ℕ} {settings : List Settings}
 
   pub given-flags : length (w .flags) ≡ n
   given-flags = ap length (given .fits .walks .flags) ∙ flag-count (given .turning .b) (given .turning .fits .passed) ∙ sym (given .fits .modules)
+
+  pub order-few : length (w .order) ≤ 4096
+  order-few = omega (arith, ap length (given .fits .walks .order), places-few (given .turning .b) (given .turning .fits .passed))
 
   pub group-small : (i : ℕ) → i < length turns → getD turns i 0 < 64
   group-small i h = omega (arith, given .fits .inside i h, groups-few (given .turning .b) (given .turning .fits .passed))

@@ -13,7 +13,7 @@ ghost use Rattle.closed.specs.Closed.{Closed};
 ghost use Rattle.names.specs.Turn.{NamesRoom};
 ghost use Rattle.groups.specs.Turn.{GroupTurning, GroupTurned, GroupsTurning, GroupsTurned};
 
-// One group turned into chunks.
+// One group turned into chunks. Its matched modules are written to `matched`.
 fn convert_group(
     settings: Settings,
     group: u32,
@@ -38,6 +38,7 @@ fn convert_group(
     marks: &mut [u8],
     followed: &mut [u8],
     set: &mut [u32],
+    matched: &mut [u32],
     scratch: &mut [u32],
     chunk_of: &mut [u32],
     group_of: &mut [u32],
@@ -56,6 +57,7 @@ fn convert_group(
           bits-of = now «bits_of»;
         }) ⌝ }
     requires { ⌜ NamesRoom n (now flags) (now order) (now place) (now marks) (now followed) (now set) (now scratch)
+        × (length (now order) ≤ length (now matched))
         × Closed (now flags) (now first) (now dependency) (now next) (now closed) (now «chunk_of») ⌝ }
     ensures { λ r. ⌜ GroupTurned (record {
       bytes = now (bytes .entry);
@@ -86,12 +88,12 @@ fn convert_group(
           bits-of = now («bits_of» .exit);
         }) ⌝ }
     ensures { λ _. ⌜ (length (now (marks .exit)) ≡ length (now (marks .entry))) × (length (now (set .exit)) ≡ length (now (set .entry)))
+        × (length (now (matched .exit)) ≡ length (now (matched .entry)))
         × (length (now (scratch .exit)) ≡ length (now (scratch .entry))) × (now (followed .exit) ≡ unfollowed)
         × Closed (now (flags .entry)) (now (first .entry)) (now (dependency .entry)) (now (next .entry)) (now (closed .exit)) (now («chunk_of» .exit)) ⌝ }
 {
-    let mut matched = [0u32; 4096];
     let filter = settings.filter;
-    let count = match_group(filter, answers, tags, sizes, shares, order, &mut matched);
+    let count = match_group(filter, answers, tags, sizes, shares, order, matched);
     convert_names(
         settings,
         group,
@@ -202,6 +204,7 @@ pub fn convert_groups_to_chunks(
     let mut marks = [0u8; 4096];
     let mut followed = [0u8; 65536];
     let mut set = [0u32; 4096];
+    let mut matched = [0u32; 4096];
     let mut made = 0;
     let mut i = 0;
     while i < turns.len() {
@@ -234,6 +237,7 @@ pub fn convert_groups_to_chunks(
                 &mut marks[..n],
                 &mut followed,
                 &mut set,
+                &mut matched,
                 scratch,
                 chunk_of,
                 group_of,

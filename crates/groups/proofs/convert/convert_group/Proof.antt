@@ -3,57 +3,50 @@ use Prim.Native.Nat.{ℕ, _≤_}
 use mathlib.Core.List.{List}
 use mathlib.Core.Path.{sym}
 use native.Mathlib.Omega.{arith}
-use lib.ListN.{length, replicate, length-replicate}
+use lib.ListN.{length}
 use lib.Seq.{length-take-le}
 use Rattle.groups.proofs.GroupTurn.{group-ready, found-few, group-fits, group-turned}
 use borrow.Author.Needs.{needs}
 use Rattle.groups.proofs.convert.convert_group.Statement.{statement}
 use Rattle.groups.proofs.convert.convert_group.Tie as tie
 
--- a local area
-abbrev blank : List ℕ
-blank = replicate 4096 0
-
-long : 4096 ≤ length blank
-long = omega (arith, length-replicate {A = ℕ} 4096 0)
-
 -- ---- what is known once the group is matched
 
 abbrev start : tie.After-match-group → tie.Start
 start m = m .before .before .before .before .before .before .before .before .before .before .before .before .before .before .before .before .before .before
-    .before .before .before .before .before .before .before .before .before
+    .before .before .before .before .before .before .before .before .before .before
 
 -- the matched modules are written to the front of it
 abbrev area : tie.After-match-group → List ℕ
 area m = m .match-group .last .1 .1 .1 .1 .1 .1 .0
 
-few : (m : tie.After-match-group) → m .match-group .result ≤ 4096
-few m = let p = start m .pre .0 in found-few (p .turning .b) (p .turning .fits) (p .fits) (m .match-group .ensures)
-
 room : (m : tie.After-match-group) → m .match-group .result ≤ length (area m)
-room m = omega (arith, few m, m .match-group .kept .1 .1 .1 .1 .1 .1 .0, long)
-
-slice-aggregate-match-group : tie.Need-slice-aggregate-match-group
-slice-aggregate-match-group c = search needs
+room m =
+    let s = start m in
+    let p = s .pre .0 in
+    let few = found-few (p .turning .b) (p .turning .fits) (p .fits) (m .match-group .ensures) in
+    omega (arith, few, m .match-group .kept .1 .1 .1 .1 .1 .1 .0, s .pre .1 .1)
 
 match-group-requires : tie.Need-match-group-requires
 match-group-requires c κs =
-    let p = c .before .before .before .before .before .before .before .before .before .before .before .before .before .before .before .before .before .before
-    .before .before .before .before .before .before .before .before .pre .0 in
-    group-ready (p .turning .b) (p .turning .fits) (p .fits) _ long
+    let s = c .before .before .before .before .before .before .before .before .before .before .before .before .before .before .before .before .before .before
+    .before .before .before .before .before .before .before .before .before in
+    let p = s .pre .0 in
+    group-ready (p .turning .b) (p .turning .fits) (p .fits) _ (s .pre .1 .1)
 
-array-share-prefix-matched : tie.Need-array-share-prefix-matched
-array-share-prefix-matched c = room (c .before)
+slice-reshare-prefix-convert-names : tie.Need-slice-reshare-prefix-convert-names
+slice-reshare-prefix-convert-names c = room (c .before .before)
 
 slice-aggregate-convert-names : tie.Need-slice-aggregate-convert-names
-slice-aggregate-convert-names c = let m = c .before .before in sym (length-take-le (m .match-group .result) (area m) (room m))
+slice-aggregate-convert-names c = let m = c .before .before .before in sym (length-take-le (m .match-group .result) (area m) (room m))
 
 convert-names-requires : tie.Need-convert-names-requires
 convert-names-requires c κs =
-    let m = c .before .before .before .before .before .before .before .before .before .before .before .before in
+    let m = c .before .before .before .before .before .before .before .before .before .before .before .before .before in
     let s = start m in
     let p = s .pre .0 in
-    (record { turning = p .turning; fits = group-fits (p .turning .b) (p .turning .fits) (p .fits) (m .match-group .ensures) }, s .pre .1)
+    let fits = group-fits (p .turning .b) (p .turning .fits) (p .fits) (m .match-group .ensures) in
+    (record { turning = p .turning; fits = fits }, (s .pre .1 .0, s .pre .1 .2))
 
 same-length : tie.Need-same-length
 same-length c = search needs
@@ -85,21 +78,24 @@ same-length-9 c = search needs
 same-length-10 : tie.Need-same-length-10
 same-length-10 c = search needs
 
+same-length-11 : tie.Need-same-length-11
+same-length-11 c = search needs
+
 returns : tie.Need-returns
 returns c =
     let called = c .before .before .before .before .before .before .before .before .before .before .before .before .before .before .before .before .before
     .before .before .before in
-    let m = called .before .before .before .before .before .before .before .before .before .before .before .before .before in
+    let m = called .before .before .before .before .before .before .before .before .before .before .before .before .before .before in
     let e = called .convert-names .ensures in
-    (group-turned (m .match-group .ensures) (e .0), e .1)
+    let kept = m .match-group .kept .1 .1 .1 .1 .1 .1 .0 in
+    (group-turned (m .match-group .ensures) (e .0), (e .1 .0, e .1 .1, kept, e .1 .2, e .1 .3, e .1 .4))
 
 pub convert-group-spec : {M : Type 1} → statement M
 convert-group-spec =
     tie.close
     (tie.spec
-    slice-aggregate-match-group
     match-group-requires
-    array-share-prefix-matched
+    slice-reshare-prefix-convert-names
     slice-aggregate-convert-names
     convert-names-requires
     same-length
@@ -112,4 +108,5 @@ convert-group-spec =
     same-length-8
     same-length-9
     same-length-10
+    same-length-11
     returns)

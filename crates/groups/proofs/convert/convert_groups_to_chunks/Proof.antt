@@ -13,14 +13,14 @@ use Rattle.closed.specs.Closed.{Closed}
 use Rattle.closed.proofs.ClosedSets.{closed-none, closed-as}
 use Rattle.names.proofs.OrderOf.{places-free}
 use Rattle.groups.proofs.Turning.{TurnsTo, none-turned, next-turning, one-turned, all-turned, number-small, record-in}
-use Rattle.groups.proofs.Turning.{given-few, given-flags, group-small, row-small, row-within}
+use Rattle.groups.proofs.Turning.{given-few, given-flags, order-few, group-small, row-small, row-within}
 use Rattle.groups.proofs.convert.convert_groups_to_chunks.Statement.{statement}
 use Rattle.groups.proofs.convert.convert_groups_to_chunks.Tie as tie
 
 abbrev Inv-loop : tie.InvT-loop
 Inv-loop turns answers n flags sizes shares tags bits bytes offsets first dependency next order rank number at scratch₀ chunk-of₀ group-of₀ name-of₀
-    size-of₀ bits-of₀ settings place closed₀ marks₀ followed₀ set₀ made₀ i₀ scratch chunk-of group-of name-of size-of bits-of closed marks followed
-    set made i =
+    size-of₀ bits-of₀ settings place closed₀ marks₀ followed₀ set₀ matched₀ made₀ i₀ scratch chunk-of group-of name-of size-of bits-of closed marks followed
+    set matched made i =
     TurnsTo (record { bytes = bytes; offsets = offsets; sizes = sizes; rank = rank })
     (record { flags = flags; first = first; dependency = dependency; next = next; order = order }) bits settings turns
     (record { answers = answers; tags = tags; shares = shares }) n (number .0) at i made
@@ -31,14 +31,15 @@ Inv-loop turns answers n flags sizes shares tags bits bytes offsets first depend
     × (length scratch ≡ length scratch₀)
     × (length marks ≡ 4096)
     × (length set ≡ 4096)
+    × (length matched ≡ 4096)
     × (followed ≡ unfollowed)
     × (length closed ≡ 4096)
     × Closed flags first dependency next (take n closed) chunk-of
 
 abbrev μ-loop : tie.MeasureT-loop
 μ-loop turns answers n flags sizes shares tags bits bytes offsets first dependency next order rank number at scratch₀ chunk-of₀ group-of₀ name-of₀
-    size-of₀ bits-of₀ settings place closed₀ marks₀ followed₀ set₀ made₀ i₀ scratch chunk-of group-of name-of size-of bits-of closed marks followed
-    set made i =
+    size-of₀ bits-of₀ settings place closed₀ marks₀ followed₀ set₀ matched₀ made₀ i₀ scratch chunk-of group-of name-of size-of bits-of closed marks followed
+    set matched made i =
     length turns - i
 
 -- ---- what is known in a turn, and after its call
@@ -48,7 +49,7 @@ start k = k .before .before .before .before .before .before .before .before .bef
     .before .before .before .before .before .before .before .before .before .before
 
 abbrev turn : tie.After-convert-group Inv-loop μ-loop → tie.In-loop Inv-loop μ-loop
-turn m = m .before .before .before .before .before .before .before .before .before .before .before .before .before .before .before .before .before
+turn m = m .before .before .before .before .before .before .before .before .before .before .before .before .before .before .before .before .before .before
 
 -- the front of an area of zeros
 zeros-long : {n : ℕ} → n ≤ 4096 → n ≤ length (replicate {A = ℕ} 4096 0)
@@ -101,6 +102,7 @@ loop-holds c =
       refl,
       length-replicate {A = ℕ} 4096 0,
       length-replicate {A = ℕ} 4096 0,
+      length-replicate {A = ℕ} 4096 0,
       refl,
       length-front (replicate 4096 0) front n (r .kept .1 .0) ∙ length-replicate {A = ℕ} 4096 0,
       closed-as (take-at front (drop n (replicate 4096 0)) n (ap length (r .ensures) ∙ given-flags p) ∙ r .ensures)
@@ -149,11 +151,11 @@ part-convert-group-end c = let k = c .before .before .before in row-within (star
 slice-aggregate-convert-group : tie.Need-slice-aggregate-convert-group Inv-loop μ-loop
 slice-aggregate-convert-group c = search needs
 
-cast-t58 : tie.Need-cast-t58 Inv-loop μ-loop
-cast-t58 c = let k = c .before .before .before .before .before in omega (arith, number-small (k .before .loop .inv .0) (start k .pre .0))
+cast-t59 : tie.Need-cast-t59 Inv-loop μ-loop
+cast-t59 c = let k = c .before .before .before .before .before in omega (arith, number-small (k .before .loop .inv .0) (start k .pre .0))
 
-add-t59 : tie.Need-add-t59 Inv-loop μ-loop
-add-t59 c = let k = c .before .before .before .before .before .before in omega (arith, number-small (k .before .loop .inv .0) (start k .pre .0))
+add-t60 : tie.Need-add-t60 Inv-loop μ-loop
+add-t60 c = let k = c .before .before .before .before .before .before in omega (arith, number-small (k .before .loop .inv .0) (start k .pre .0))
 
 add-convert-group : tie.Need-add-convert-group Inv-loop μ-loop
 add-convert-group c =
@@ -166,14 +168,14 @@ array-borrow-prefix-closed-2 c = let k = c .before .before .before .before .befo
   arith,
   given-few (start k .pre .0),
   k .before .loop .inv
-      .6,
+      .7,
 )
 
 slice-aggregate-convert-group-2 : tie.Need-slice-aggregate-convert-group-2 Inv-loop μ-loop
 slice-aggregate-convert-group-2 c =
     let k = c .before .before .before .before .before .before .before in
     let l = k .before .loop in
-    sym (length-take-le _ (l .closed) (omega (arith, given-few (start k .pre .0), l .inv .6)))
+    sym (length-take-le _ (l .closed) (omega (arith, given-few (start k .pre .0), l .inv .7)))
 
 array-borrow-prefix-marks : tie.Need-array-borrow-prefix-marks Inv-loop μ-loop
 array-borrow-prefix-marks c =
@@ -187,14 +189,17 @@ slice-aggregate-convert-group-3 c =
     sym (length-take-le _ (l .marks) (omega (arith, given-few (start k .pre .0), l .inv .3)))
 
 slice-aggregate-convert-group-4 : tie.Need-slice-aggregate-convert-group-4 Inv-loop μ-loop
-slice-aggregate-convert-group-4 c = sym (unfollowed-bytes (c .before .before .before .before .before .before .before .before .before .before .loop .inv .5))
+slice-aggregate-convert-group-4 c = sym (unfollowed-bytes (c .before .before .before .before .before .before .before .before .before .before .loop .inv .6))
 
 slice-aggregate-convert-group-5 : tie.Need-slice-aggregate-convert-group-5 Inv-loop μ-loop
 slice-aggregate-convert-group-5 c = sym (c .before .before .before .before .before .before .before .before .before .before .before .loop .inv .4)
 
+slice-aggregate-convert-group-6 : tie.Need-slice-aggregate-convert-group-6 Inv-loop μ-loop
+slice-aggregate-convert-group-6 c = sym (c .before .before .before .before .before .before .before .before .before .before .before .before .loop .inv .5)
+
 convert-group-requires : tie.Need-convert-group-requires Inv-loop μ-loop
 convert-group-requires c κs =
-    let k = c .before .before .before .before .before .before .before .before .before .before .before .before .before .before .before .before in
+    let k = c .before .before .before .before .before .before .before .before .before .before .before .before .before .before .before .before .before in
     let s = start k in
     let p = s .pre .0 in
     let l = k .before .loop in
@@ -209,32 +214,35 @@ convert-group-requires c κs =
           mark-bytes = length-take-le _ (l .marks) (omega (arith, given-few p, l .inv .3));
           set-room = omega (arith, given-few p, l .inv .4);
           scratch-room = omega (arith, s .pre .1, l .inv .2);
-          clear = l .inv .5;
+          clear = l .inv .6;
         },
-        l .inv .7,
+        omega (arith, order-few p, l .inv .5),
+        l .inv .8,
       ),
     )
 
 add-made : tie.Need-add-made Inv-loop μ-loop
 add-made c =
-    let m = c .before .before .before .before .before .before .before .before .before .before .before .before .before .before .before .before in
+    let m = c .before .before .before .before .before .before .before .before .before .before .before .before .before .before .before .before .before in
     let k = turn m in
     let l = k .before .loop in
     let next = one-turned (l .inv .0) _ (k .loop-test .taken) (m .convert-group .ensures .0) in
-    let kept = m .convert-group .kept .1 .1 .1 .1 .1 .1 .1 .1 .1 .1 .1 .1 .1 .1 .1 .1 .1 .1 .1 .1 .1 .1 .1 .1 .1 .0 in
+    let kept = m .convert-group .kept .1 .1 .1 .1 .1 .1 .1 .1 .1 .1 .1 .1 .1 .1 .1 .1 .1 .1 .1 .1 .1 .1 .1 .1 .1 .1 .0 in
     omega (arith, record-in next (start k .pre .0), l .inv .1 .group-of, kept, start k .good .1 .1 .1 .1 .1 .1 .1 .1 .1 .1 .1 .1 .1 .1 .1 .1 .1 .1 .1 .1 .0)
 
 add-i : tie.Need-add-i Inv-loop μ-loop
 add-i c =
-    let k = turn (c .before .before .before .before .before .before .before .before .before .before .before .before .before .before .before .before) in
+    let k = turn (c .before .before .before .before .before .before .before .before .before .before .before .before .before .before .before .before .before) in
     omega (arith, k .loop-test .taken, start k .good .1 .0)
 
 loop-less : tie.Need-loop-less Inv-loop μ-loop
-loop-less c = omega arith
+loop-less c =
+    let k = turn (c .before .before .before .before .before .before .before .before .before .before .before .before .before .before .before .before .before) in
+    omega (arith, k .loop-test .taken)
 
 loop-again : tie.Need-loop-again Inv-loop μ-loop
 loop-again c =
-    let m = c .before .before .before .before .before .before .before .before .before .before .before .before .before .before .before .before in
+    let m = c .before .before .before .before .before .before .before .before .before .before .before .before .before .before .before .before .before in
     let k = turn m in
     let l = k .before .loop in
     let r = m .convert-group in
@@ -242,21 +250,22 @@ loop-again c =
     let marks = r .last .1 .1 .1 .1 .1 .1 .1 .1 .1 .1 .1 .1 .1 .1 .1 .1 .1 .1 .1 .1 .0 in
     let front = r .last .1 .1 .1 .1 .1 .1 .1 .1 .1 .1 .1 .1 .1 .1 .1 .1 .1 .1 .1 .0 in
     let n = start k .args .n in
-    let fits = length-take-le n (l .closed) (omega (arith, given-few (start k .pre .0), l .inv .6)) in (
+    let fits = length-take-le n (l .closed) (omega (arith, given-few (start k .pre .0), l .inv .7)) in (
       one-turned (l .inv .0) _ (k .loop-test .taken) (r .ensures .0),
       record {
-        chunk-of = r .kept .1 .1 .1 .1 .1 .1 .1 .1 .1 .1 .1 .1 .1 .1 .1 .1 .1 .1 .1 .1 .1 .1 .1 .1 .0 ∙ same .chunk-of;
-        group-of = r .kept .1 .1 .1 .1 .1 .1 .1 .1 .1 .1 .1 .1 .1 .1 .1 .1 .1 .1 .1 .1 .1 .1 .1 .1 .1 .0 ∙ same .group-of;
-        name-of = r .kept .1 .1 .1 .1 .1 .1 .1 .1 .1 .1 .1 .1 .1 .1 .1 .1 .1 .1 .1 .1 .1 .1 .1 .1 .1 .1 .0 ∙ same .name-of;
-        size-of = r .kept .1 .1 .1 .1 .1 .1 .1 .1 .1 .1 .1 .1 .1 .1 .1 .1 .1 .1 .1 .1 .1 .1 .1 .1 .1 .1 .1 .0 ∙ same .size-of;
-        bits-of = r .kept .1 .1 .1 .1 .1 .1 .1 .1 .1 .1 .1 .1 .1 .1 .1 .1 .1 .1 .1 .1 .1 .1 .1 .1 .1 .1 .1 .1 .0 ∙ same .bits-of;
+        chunk-of = r .kept .1 .1 .1 .1 .1 .1 .1 .1 .1 .1 .1 .1 .1 .1 .1 .1 .1 .1 .1 .1 .1 .1 .1 .1 .1 .0 ∙ same .chunk-of;
+        group-of = r .kept .1 .1 .1 .1 .1 .1 .1 .1 .1 .1 .1 .1 .1 .1 .1 .1 .1 .1 .1 .1 .1 .1 .1 .1 .1 .1 .0 ∙ same .group-of;
+        name-of = r .kept .1 .1 .1 .1 .1 .1 .1 .1 .1 .1 .1 .1 .1 .1 .1 .1 .1 .1 .1 .1 .1 .1 .1 .1 .1 .1 .1 .0 ∙ same .name-of;
+        size-of = r .kept .1 .1 .1 .1 .1 .1 .1 .1 .1 .1 .1 .1 .1 .1 .1 .1 .1 .1 .1 .1 .1 .1 .1 .1 .1 .1 .1 .1 .0 ∙ same .size-of;
+        bits-of = r .kept .1 .1 .1 .1 .1 .1 .1 .1 .1 .1 .1 .1 .1 .1 .1 .1 .1 .1 .1 .1 .1 .1 .1 .1 .1 .1 .1 .1 .1 .0 ∙ same .bits-of;
       },
-      r .kept .1 .1 .1 .1 .1 .1 .1 .1 .1 .1 .1 .1 .1 .1 .1 .1 .1 .1 .1 .1 .1 .1 .1 .0 ∙ l .inv .2,
+      r .kept .1 .1 .1 .1 .1 .1 .1 .1 .1 .1 .1 .1 .1 .1 .1 .1 .1 .1 .1 .1 .1 .1 .1 .1 .0 ∙ l .inv .2,
       length-front (l .marks) marks n (r .kept .1 .1 .1 .1 .1 .1 .1 .1 .1 .1 .1 .1 .1 .1 .1 .1 .1 .1 .1 .1 .0) ∙ l .inv .3,
       r .kept .1 .1 .1 .1 .1 .1 .1 .1 .1 .1 .1 .1 .1 .1 .1 .1 .1 .1 .1 .1 .1 .1 .0 ∙ l .inv .4,
-      r .ensures .1 .3,
-      length-front (l .closed) front n (r .kept .1 .1 .1 .1 .1 .1 .1 .1 .1 .1 .1 .1 .1 .1 .1 .1 .1 .1 .1 .0) ∙ l .inv .6,
-      closed-as (take-at front (drop n (l .closed)) n (r .kept .1 .1 .1 .1 .1 .1 .1 .1 .1 .1 .1 .1 .1 .1 .1 .1 .1 .1 .1 .0 ∙ fits)) (r .ensures .1 .4),
+      r .kept .1 .1 .1 .1 .1 .1 .1 .1 .1 .1 .1 .1 .1 .1 .1 .1 .1 .1 .1 .1 .1 .1 .1 .0 ∙ l .inv .5,
+      r .ensures .1 .4,
+      length-front (l .closed) front n (r .kept .1 .1 .1 .1 .1 .1 .1 .1 .1 .1 .1 .1 .1 .1 .1 .1 .1 .1 .1 .0) ∙ l .inv .7,
+      closed-as (take-at front (drop n (l .closed)) n (r .kept .1 .1 .1 .1 .1 .1 .1 .1 .1 .1 .1 .1 .1 .1 .1 .1 .1 .1 .1 .0 ∙ fits)) (r .ensures .1 .5),
     )
 
 same-length : tie.Need-same-length Inv-loop μ-loop
@@ -306,8 +315,8 @@ convert-groups-to-chunks-spec =
     part-convert-group-start
     part-convert-group-end
     slice-aggregate-convert-group
-    cast-t58
-    add-t59
+    cast-t59
+    add-t60
     add-convert-group
     array-borrow-prefix-closed-2
     slice-aggregate-convert-group-2
@@ -315,6 +324,7 @@ convert-groups-to-chunks-spec =
     slice-aggregate-convert-group-3
     slice-aggregate-convert-group-4
     slice-aggregate-convert-group-5
+    slice-aggregate-convert-group-6
     convert-group-requires
     add-made
     add-i
