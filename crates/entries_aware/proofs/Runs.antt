@@ -10,7 +10,7 @@ use Rattle.lists.specs.Keys.{keysIn}
 use Rattle.lists.specs.Packed.{keyOf, itemOf}
 use Rattle.lists.proofs.Keys.{keys-none, mem-keys}
 use Rattle.lists.proofs.Position.{getD-mem}
-use Rattle.lists.proofs.Runs.{Boundary, Run, boundary-start, run-of, run-keeps, run-next}
+use Rattle.lists.proofs.Runs.{Ascending, Boundary, Run, boundary-start, run-of, run-keeps, run-next}
 use Rattle.bitset.specs.Entries.{rowOf}
 use Rattle.bitset.specs.declared.entries.BitSet.{BitSet}
 use Rattle.options.specs.declared.Settings.{Settings}
@@ -65,6 +65,9 @@ module _ (r : Settings) (g name : ℕ) {t : Tables} {bits set rows order members
   abbrev Walk : ℕ → ℕ → Work → Type 0
   Walk from made now = Walked r g name t bits set rows order number at entry from made now
 
+  pub numbers-ascend : Ascending keyOf order
+  numbers-ascend = order-ascends bits (t .sizes) set (ready .few) (r .threshold) rows order (ready .processed)
+
   pub walk-none : Walk 0 0 entry
   walk-none = record {
     within = omega arith;
@@ -115,10 +118,7 @@ module _ (r : Settings) (g name : ℕ) {t : Tables} {bits set rows order members
       subgroups = at-most bits (t .sizes) set (ready .few) (r .threshold) rows order (ready .processed)
 
       run : Run keyOf order 0 k from to
-      run =
-          run-of keyOf
-          (order-ascends bits (t .sizes) set (ready .few) (r .threshold) rows order (ready .processed))
-          (w .starts) (end .some) (end .within) (end .same) (end .stop)
+      run = run-of keyOf numbers-ascend (w .starts) (end .some) (end .within) (end .same) (end .stop)
 
       pub run-row : 4 * k + 4 ≤ length rows
       run-row = omega (arith, below, subgroups, ready .row-each)

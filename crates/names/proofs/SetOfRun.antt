@@ -105,9 +105,12 @@ module _ {b : Given} {w : Walking} {settings : Settings} {group : ℕ} {matched 
   place-in : (x : ℕ) → List·Memᴰ x matched → itemOf x < length (w .order)
   place-in = rw (fits .matched-are, fits .walks .order) (matched-place b ok group (fits .inside))
 
+  pub names-ascend : Ascending keyOf matched
+  names-ascend = rw (fits .matched-are) (ascends b group)
+
   -- the run of a name
   pub run-is : {from to : ℕ} → Boundary keyOf matched from → RunEnd matched from to → Run keyOf matched 0 (keyOf (getD matched from 0)) from to
-  run-is starts e = run-of keyOf (rw (fits .matched-are) (ascends b group)) starts (e .some) (e .within) (e .same) (e .stop)
+  run-is starts e = run-of keyOf names-ascend starts (e .some) (e .within) (e .same) (e .stop)
 
   run-all : {name from to : ℕ} → Run keyOf matched 0 name from to → part from to ≡ runOf b group name
   unfolding runOf
