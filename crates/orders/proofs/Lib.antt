@@ -3,6 +3,7 @@ pub mod Neighbours
 pub mod Orders
 pub mod Naming
 pub mod NeighbourOrder
+pub mod BlockOrder
 pub mod InsertOne
 pub mod InsertAll
 pub mod Buckets

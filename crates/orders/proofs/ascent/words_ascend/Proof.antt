@@ -1,73 +1,62 @@
--- `orders::ascent::words_ascend` meets its contract. The loop's invariant: no number before i is followed by a lower one.
+-- `orders::ascent::words_ascend` meets its contract. The loop's invariant: no number before `from` is followed by a lower one.
 use Prim.Native.Nat.{_-_, _≤_}
-use mathlib.Core.Bool.{false, not}
-use mathlib.Core.Path.{_≡_, refl, sym, ap, _∙_}
-use native.Mathlib.Numerals.{add-one}
+use mathlib.Core.Bool.{not}
+use mathlib.Core.Path.{sym, ap, _∙_}
 use native.Mathlib.Omega.{arith}
-use borrow.Author.Tests.{lt-ltb, le-ltb}
 use lib.ListN.{length}
-use Rattle.lists.specs.Below.{anyBelow}
-use Rattle.lists.proofs.Below.{any-some}
-use Rattle.orders.specs.Ascending.{falls, ascending}
+use Rattle.orders.proofs.BlockOrder.{RisesTo, rises-none, rises-next, few-ascend, fall-descends, rest-decides}
 use Rattle.orders.proofs.ascent.words_ascend.Statement.{statement}
 use Rattle.orders.proofs.ascent.words_ascend.Tie as tie
 
 abbrev Inv-loop : tie.InvT-loop
-Inv-loop a i₀ i = (i ≤ length a - 1) × (anyBelow (falls a) i ≡ false)
+Inv-loop a pairs from₀ from = (from ≤ length a - 1) × RisesTo a from
 
 abbrev μ-loop : tie.MeasureT-loop
-μ-loop a i₀ i = length a - i
+μ-loop a pairs from₀ from = length a - from
+
+returns : tie.Need-returns Inv-loop μ-loop
+returns c = few-ascend _ (omega arith)
+
+sub-pairs : tie.Need-sub-pairs Inv-loop μ-loop
+sub-pairs c = omega arith
 
 loop-holds : tie.Need-loop-holds Inv-loop μ-loop
-unfolding anyBelow
-loop-holds c = (omega arith, refl)
+loop-holds c = (omega arith, rises-none _)
 
 add-loop : tie.Need-add-loop Inv-loop μ-loop
 add-loop c = omega arith
 
-add-if1 : tie.Need-add-if1 Inv-loop μ-loop
-add-if1 c = omega arith
+words-fall-among-requires : tie.Need-words-fall-among-requires Inv-loop μ-loop
+words-fall-among-requires c κs = omega arith
 
-mul-if1 : tie.Need-mul-if1 Inv-loop μ-loop
-mul-if1 c = omega arith
+returns-2 : tie.Need-returns-2 Inv-loop μ-loop
+returns-2 c =
+    let k = c .before .words-fall-among in
+    fall-descends _ (c .before .before .before .loop .from) 16 (omega arith) (sym (k .ensures) ∙ c .if2 .taken)
 
-shared-slice-read-if1 : tie.Need-shared-slice-read-if1 Inv-loop μ-loop
-shared-slice-read-if1 c = omega arith
-
-mul-if1-2 : tie.Need-mul-if1-2 Inv-loop μ-loop
-mul-if1-2 c = omega arith
-
-shared-slice-read-if1-2 : tie.Need-shared-slice-read-if1-2 Inv-loop μ-loop
-shared-slice-read-if1-2 c = omega arith
-
-returns : tie.Need-returns Inv-loop μ-loop
-unfolding ascending falls
-returns c =
-    let a = c .before .before .before .before .before .args .a .now in
-    let i = c .before .before .before .before .loop .i in
-    sym (ap not (any-some (falls a) (length a - 1) i (omega arith) (lt-ltb _ _ (c .if1 .taken))))
-
-add-i : tie.Need-add-i Inv-loop μ-loop
-add-i c = omega arith
+add-from : tie.Need-add-from Inv-loop μ-loop
+add-from c = omega arith
 
 loop-less : tie.Need-loop-less Inv-loop μ-loop
 loop-less c = omega arith
 
 loop-again : tie.Need-loop-again Inv-loop μ-loop
-unfolding falls anyBelow
 loop-again c =
-    let a = c .before .before .before .before .before .args .a .now in
-    let l = c .before .before .before .before .loop in
-    let e : falls a (l .i) ≡ false = le-ltb _ _ (c .if1 .left) in
-    (omega arith, rw (add-one (l .i), e) (l .inv .1))
+    let k = c .before .words-fall-among in
+    let l = c .before .before .before .loop in
+    (omega arith, rises-next _ (l .from) 16 (l .inv .1) (sym (k .ensures) ∙ c .if2 .left))
 
-returns-2 : tie.Need-returns-2 Inv-loop μ-loop
-unfolding ascending falls
-returns-2 c =
-    let a = c .before .before .args .a .now in
-    let l = c .before .loop in
-    let e : l .i ≡ length a - 1 = omega arith in
-    sym (ap not (sym (ap (anyBelow (falls a)) e) ∙ l .inv .1))
+sub-words-fall-among : tie.Need-sub-words-fall-among Inv-loop μ-loop
+sub-words-fall-among c = omega arith
+
+words-fall-among-requires-2 : tie.Need-words-fall-among-requires-2 Inv-loop μ-loop
+words-fall-among-requires-2 c κs = omega arith
+
+returns-3 : tie.Need-returns-3 Inv-loop μ-loop
+returns-3 c =
+    let s = c .before .before .before .before .before .args in
+    let l = c .before .before .loop in
+    ap not (c .words-fall-among2 .ensures) ∙ rest-decides (s .a .now) (l .from) (length (s .a .now) - 1 - l .from) (omega arith) (l .inv .1)
 
 pub words-ascend-spec : {M : Type 1} → statement M
 words-ascend-spec =
@@ -75,15 +64,15 @@ words-ascend-spec =
     (tie.spec
     Inv-loop
     μ-loop
+    returns
+    sub-pairs
     loop-holds
     add-loop
-    add-if1
-    mul-if1
-    shared-slice-read-if1
-    mul-if1-2
-    shared-slice-read-if1-2
-    returns
-    add-i
+    words-fall-among-requires
+    returns-2
+    add-from
     loop-less
     loop-again
-    returns-2)
+    sub-words-fall-among
+    words-fall-among-requires-2
+    returns-3)
