@@ -8,7 +8,7 @@ use lib.Dec.{ltb}
 use lib.Ieee.{Float, lt}
 use lib.ListN.{length, getD}
 use Rattle.whole.specs.Double.{toF64}
-use Rattle.bitset.specs.Entries.{wordAt, rowOf, differing}
+use Rattle.bitset.specs.Entries.{rowOf, differing}
 use Rattle.bitset.specs.declared.entries.BitSet.{BitSet}
 use Rattle.joins.specs.declared.candidate.Candidate.{Candidate}
 
@@ -33,9 +33,9 @@ unfoldable pub targetAt : List ℕ → List ℕ → BitSet → ℕ → Candidate
 unfolding differing rowOf
 targetAt sizes bits wanted i = record { number = i; size = toF64 (getD sizes i 0); distance = differing wanted (rowOf bits i) }
 
--- the entries of the first word that exactly one of the two sets has
-abbrev pub firstOnes : BitSet → BitSet → ℕ
-firstOnes a b = ones (bitXor (wordAt a 0) (wordAt b 0))
+-- how many entries exactly one of two words has
+abbrev pub onesApart : ℕ → ℕ → ℕ
+onesApart a b = ones (bitXor a b)
 
 -- ---- what a search reads
 

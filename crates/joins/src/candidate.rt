@@ -7,7 +7,7 @@ ghost use Prim.Native.Nat.{_<_};
 ghost use lib.Dec.{ltb};
 ghost use lib.ListN.{length};
 ghost use Rattle.lists.specs.Least.{earlier};
-ghost use Rattle.joins.specs.Candidate.{seeking, comesFirst, seekerAt, targetAt, firstOnes, Row, Exact};
+ghost use Rattle.joins.specs.Candidate.{seeking, comesFirst, seekerAt, targetAt, onesApart, Row, Exact};
 
 // A subgroup's number, its size, and how many entries tell it from the seeker: 0 while a seeker is looked for.
 pub struct Candidate {
@@ -71,12 +71,10 @@ impl Candidate {
     }
 
     // Whether the first words alone rule another set out: they tell it from the wanted one by more entries than this one has.
-    pub fn rules_out(self, other: BitSet, wanted: BitSet) -> bool
-        ensures { λ r. ⌜ r ≡ ltb (self .distance) (firstOnes wanted other) ⌝ }
+    pub fn rules_out(self, wanted: u64, other: u64) -> bool
+        ensures { λ r. ⌜ r ≡ ltb (self .distance) (onesApart wanted other) ⌝ }
     {
-        let a = wanted.words;
-        let b = other.words;
-        self.distance < u64::count_ones(a[0] ^ b[0])
+        self.distance < u64::count_ones(wanted ^ other)
     }
 
     // The nearest so far, once number i was looked at.

@@ -3,5 +3,7 @@ pub mod Least
 pub mod Searching
 pub mod Kept
 pub mod Looking
+pub mod Halving
 pub mod Removing
+pub mod Beside
 pub mod Blocks

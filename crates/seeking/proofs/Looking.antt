@@ -1,20 +1,22 @@
 -- One more is looked at: it takes the place of the best so far, or the best stays.
-use Prim.Native.Nat.{ℕ, _+_, _≤_, _<_}
+use Prim.Native.Nat.{ℕ, _+_, _*_, _^_, _≤_, _<_}
 use mathlib.Core.Bool.{Bool, true, false, cond, true≢false}
 use mathlib.Core.List.{List}
 use mathlib.Core.Option.{some, none}
-use mathlib.Core.Path.{_≡_, refl, sym, ap, _∙_, subst}
+use mathlib.Core.Path.{_≡_, refl, sym, ap, _∙_}
+use native.Mathlib.Nat.{lt-of-lt-of-le}
 use native.Mathlib.Omega.{arith}
 use lib.ListN.{length, getD}
-use Rattle.bitset.specs.Entries.{rowOf, differing}
+use Rattle.bitset.specs.Entries.{wordAt, rowOf, differing}
 use Rattle.bitset.specs.declared.entries.BitSet.{BitSet}
-use Rattle.bitset.proofs.Words.{Words}
+use Rattle.bitset.proofs.Words.{Words, row-reads, row-words}
 use Rattle.bitset.proofs.Differing.{differing-ones}
-use Rattle.joins.specs.Candidate.{comesFirst, firstOnes}
+use Rattle.joins.specs.Candidate.{comesFirst, targetAt, onesApart}
 use Rattle.joins.specs.declared.candidate.Candidate.{Candidate}
-use Rattle.seeking.specs.Search.{foundOf, givesWay, looked, PassedOver}
+use Rattle.seeking.specs.Search.{foundOf, givesWay, looked, Searchable, Nearest}
 use Rattle.seeking.specs.declared.search.Best.{Best}
-use Rattle.seeking.proofs.Kept.{by-number}
+use Rattle.joins.proofs.Nearest.{farther}
+use Rattle.seeking.proofs.Searching.{search-passed}
 
 abbrev newBest : Candidate → Best
 newBest x = record { found = true; candidate = x }
@@ -48,17 +50,27 @@ module _ (b : Best) (x : Candidate) where
   unfolding foundOf givesWay
   takes-over e t q = takes-of (b .candidate) x (b .found) e ∙ ap (λ t. looked comesFirst t (foundOf b) x) (sym q)
 
+-- ---- first words
+
 -- the first words alone tell two sets apart by no more entries than all four
-pub first-at-most : {a b : BitSet} → Words a → Words b → firstOnes a b ≤ differing a b
+first-at-most : {a b : BitSet} → Words a → Words b → onesApart (wordAt a 0) (wordAt b 0) ≤ differing a b
 first-at-most p q = omega (arith, differing-ones p q)
 
--- the number at place i is farther too
-pub one-passed : (there bits : List ℕ) (wanted : BitSet) (best : Candidate) (from i : ℕ) → PassedOver there bits wanted best from i → i < length there
-    → best .distance < differing wanted (rowOf bits (getD there i 0)) → PassedOver there bits wanted best from (i + 1)
-one-passed there bits wanted best from i passed h far = record {
-  not-before = omega (arith, passed .not-before);
-  not-past = omega arith;
-  farther = λ k p q. by-number k i
-      (λ e. subst (λ j. best .distance < differing wanted (rowOf bits (getD there j 0))) (sym e) far)
-      (λ n. passed .farther k p (omega arith));
-}
+module _ (there words sizes bits : List ℕ) (s : Searchable there words sizes bits) (small : (i : ℕ) → i < length bits → getD bits i 0 < 2 ^ 64)
+    (wanted : BitSet) (is : Words wanted) where
+  -- the word beside a number does so too
+  beside-at-most : (k : ℕ) → k < length there → onesApart (wordAt wanted 0) (getD words k 0) ≤ differing wanted (rowOf bits (getD there k 0))
+  beside-at-most k h =
+      let j = getD there k 0 in
+      let room : 4 * j + 4 ≤ length bits = omega (arith, s .readable .inside k h, s .rows) in
+      let first : getD words k 0 ≡ wordAt (rowOf bits j) 0 = s .first .each k h ∙ ap (λ (b : BitSet). wordAt b 0) (row-reads bits j room) in
+      rw first (first-at-most is (row-words bits j room small))
+
+  -- numbers that the words beside them rule out are passed over
+  pub nearest-passed : (best : Candidate) (from end : ℕ) → from ≤ end → end ≤ length there
+      → ((k : ℕ) → from ≤ k → k < end → best .distance < onesApart (wordAt wanted 0) (getD words k 0))
+      → Nearest there sizes bits wanted from best → Nearest there sizes bits wanted end best
+  unfolding targetAt
+  nearest-passed best from end p q far so-far =
+      search-passed (targetAt sizes bits wanted) comesFirst there best from end so-far p q
+      (λ k g h. farther best (targetAt sizes bits wanted (getD there k 0)) (lt-of-lt-of-le (far k g h) (beside-at-most k (omega arith))))

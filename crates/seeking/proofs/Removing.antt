@@ -1,117 +1,114 @@
--- A number is taken off a list: the places from its own on take over what stands one further, from the last to the first.
+-- What stands at a place is taken off a list: each place from it on takes over what stands one further.
 use Prim.Native.Nat.{ℕ, zero, suc, _+_, _-_, _≤_, _<_}
 use mathlib.Core.Bool.{not}
-use mathlib.Core.List.{List, [], _∷_, _++_, append-assoc, List·Memᴰ}
+use mathlib.Core.List.{List, [], _∷_, _++_}
 use mathlib.Core.Path.{_≡_, refl, sym, ap, _∙_}
 use native.Mathlib.Nat.{not-suc-le-zero, le-of-suc-le-suc}
 use native.Mathlib.Omega.{arith}
 use borrow.Author.Tests.{eq-eqb, ne-eqb}
 use lib.Dec.{eqb}
-use lib.ListN.{length, getD, set, take, drop, length-set, length-append, length-take, length-drop, drop-of-length-le}
-use lib.Seq.{length-take-le, take-suc, drop-cons, set-at, getD-at, take-at, split-at}
+use lib.ListN.{length, getD, set, take, drop, length-set, length-append, length-take, length-drop}
+use lib.Seq.{length-take-le, take-suc, take-at, take-all, take-suc-set, getD-set-other, getD-append-add, getD-drop, getD-take, take-append-le}
 use Rattle.lists.specs.Keep.{keep, keepHead}
 use Rattle.lists.proofs.Sort.{more}
 use Rattle.lists.proofs.Distinct.{Distinct}
 use Rattle.lists.proofs.KeepTests.{keep-all}
-use Rattle.lists.proofs.Position.{mem-getD, getD-mem}
-use Rattle.seeking.proofs.Kept.{by-number}
+use Rattle.lists.proofs.Position.{getD-mem}
+use Rattle.seeking.specs.Listed.{without, StandsAt}
 
 -- all but the number n
 abbrev pub butOne : ℕ → List ℕ → List ℕ
 butOne n l = keep (λ m. not (eqb m n)) l
 
--- the list once the places from i on have taken over; the last keeps what it had
-abbrev pub moved : List ℕ → ℕ → List ℕ
-moved l i = take i l ++ (drop (suc i) l ++ (getD l (length l - 1) 0 ∷ []))
+-- ---- what a list without one place has
 
-module _ (l : List ℕ) where
-  pub moved-none : (i : ℕ) → suc i ≡ length l → l ≡ moved l i
-  moved-none i e =
-      let last : length l - 1 ≡ i = omega arith in
-      split-at l i 0 (omega arith)
-      ∙ ap (λ t. take i l ++ t) (
-      ap (λ t. getD l i 0 ∷ t) (drop-of-length-le l {i = suc i} (omega arith))
-      ∙ ap (λ n. getD l n 0 ∷ []) (sym last)
-      ∙ ap (λ t. t ++ (getD l (length l - 1) 0 ∷ [])) (sym (drop-of-length-le l {i = suc i} (omega arith))))
+module _ (l : List ℕ) (place : ℕ) (h : place < length l) where
+  pub length-without : length (without place l) ≡ length l - 1
+  unfolding without
+  length-without = simp (length-append, length-take, length-drop) (omega arith)
 
-  pub moved-taken : (i : ℕ) → i < length l → take (length l - 1) (moved l i) ≡ take i l ++ drop (suc i) l
-  moved-taken i h =
-      ap (take (length l - 1)) (sym (append-assoc (take i l) (drop (suc i) l) (getD l (length l - 1) 0 ∷ [])))
-      ∙ take-at (take i l ++ drop (suc i) l) (getD l (length l - 1) 0 ∷ []) (length l - 1) (simp (length-append, length-take, length-drop) (omega arith))
+  pub without-before : (i : ℕ) → i < place → getD (without place l) i 0 ≡ getD l i 0
+  unfolding without
+  without-before i b =
+      sym (getD-take place (take place l ++ drop (suc place) l) i 0 b)
+      ∙ ap (λ t. getD t i 0) (take-at (take place l) (drop (suc place) l) place (length-take-le place l (omega arith)))
+      ∙ getD-take place l i 0 b
 
-  -- one place more takes over
-  module _ (i : ℕ) (h : suc i < length l) where
-    rest : List ℕ
-    rest = drop (suc (suc i)) l ++ (getD l (length l - 1) 0 ∷ [])
+  pub without-after : (i : ℕ) → place ≤ i → getD (without place l) i 0 ≡ getD l (suc i) 0
+  unfolding without
+  without-after i b =
+      let front : length (take place l) ≡ place = length-take-le place l (omega arith) in
+      let at : i ≡ length (take place l) + (i - place) = omega arith in
+      let next : suc place + (i - place) ≡ suc i = omega arith in
+      ap (getD-in (take place l ++ drop (suc place) l)) at
+      ∙ getD-append-add (take place l) (drop (suc place) l) (i - place) 0
+      ∙ getD-drop (suc place) l (i - place) 0
+      ∙ ap (getD-in l) next
+    where
+      getD-in : List ℕ → ℕ → ℕ
+      getD-in t n = getD t n 0
 
-    here : moved l (suc i) ≡ take i l ++ (getD l i 0 ∷ rest)
-    unfolding rest
-    here = ap (λ t. t ++ rest) (take-suc l i 0 (omega arith)) ∙ append-assoc (take i l) (getD l i 0 ∷ []) rest
-
-    pub moved-reads : getD (moved l (suc i)) i 0 ≡ getD l i 0
-    moved-reads = ap (λ t. getD t i 0) here ∙ getD-at (take i l) (getD l i 0) rest 0 i (length-take-le i l (omega arith))
-
-    pub moved-next : set (moved l (suc i)) i (getD l (suc i) 0) ≡ moved l i
-    unfolding rest
-    moved-next =
-        ap (λ t. set t i (getD l (suc i) 0)) here
-        ∙ set-at (take i l) (getD l i 0) rest (getD l (suc i) 0) i (length-take-le i l (omega arith))
-        ∙ ap (λ t. take i l ++ (t ++ (getD l (length l - 1) 0 ∷ []))) (sym (drop-cons l (suc i) 0 h))
-
--- what is left of a list of different numbers without the one at place i
-pub without-one : (l : List ℕ) → Distinct l → (i : ℕ) → i < length l → butOne (getD l i 0) l ≡ take i l ++ drop (suc i) l
-unfolding keep keepHead
-without-one [] d i h = absurd (not-suc-le-zero h)
-without-one (x ∷ l) (more f r) zero h =
+-- what is left of a list of different numbers without the one at a place
+but-one : (l : List ℕ) → Distinct l → (i : ℕ) → i < length l → butOne (getD l i 0) l ≡ without i l
+unfolding keep keepHead without
+but-one [] d i h = absurd (not-suc-le-zero h)
+but-one (x ∷ l) (more f r) zero h =
     ap (λ b. keepHead (not b) x (butOne x l)) (eq-eqb x x refl)
     ∙ keep-all (λ m. not (eqb m x)) l (λ y m. ap not (ne-eqb y x (λ e. f y m (sym e))))
-without-one (x ∷ l) (more f r) (suc i) h =
+but-one (x ∷ l) (more f r) (suc i) h =
     let g = le-of-suc-le-suc h in
     ap (λ b. keepHead (not b) x (butOne (getD l i 0) l)) (ne-eqb x (getD l i 0) (λ e. f (getD l i 0) (getD-mem l i 0 g) e))
-    ∙ ap (λ t. x ∷ t) (without-one l r i g)
+    ∙ ap (λ t. x ∷ t) (but-one l r i g)
 
--- ---- while the places take over: all from i on have, and what stood at i is held; the number stands no further than i
+pub without-number : (l : List ℕ) (number place : ℕ) → Distinct l → StandsAt l number place → without place l ≡ butOne number l
+without-number l number place d at = sym (but-one l d place (at .inside)) ∙ ap (λ n. butOne n l) (at .its)
 
-pub record Moving (l : List ℕ) (number : ℕ) (list : List ℕ) (i held : ℕ) : Type 0 where
-  pub inside : i < length l
-  pub so-far : list ≡ moved l i
-  pub holds : held ≡ getD l i 0
-  pub place : ℕ
-  pub not-past : place ≤ i
-  pub its : getD l place 0 ≡ number
+-- ---- while the places take over: those from the first up to i have, the others hold what they had
+
+pub record Closing (l : List ℕ) (place : ℕ) (list : List ℕ) (i : ℕ) : Type 0 where
+  pub from : place ≤ i
+  pub most : i < length l
   pub same-length : length list ≡ length l
+  pub closed : take i list ≡ take i (without place l)
+  pub rest : (k : ℕ) → i ≤ k → getD list k 0 ≡ getD l k 0
 
-module _ (l : List ℕ) (number : ℕ) where
-  pub moving-starts : List·Memᴰ number l → (i : ℕ) → i ≡ length l - 1 → Moving l number l i (getD l i 0)
-  moving-starts m i e =
-      let p = mem-getD 0 m in
-      let last : suc i ≡ length l = omega (arith, p .1) in
-      record { inside = omega arith; so-far = moved-none l i last; holds = refl; place = p .0; not-past = omega (arith, p .1); its = p .2; same-length = refl }
+module _ (l : List ℕ) (place : ℕ) (h : place < length l) where
+  pub closing-starts : Closing l place l place
+  unfolding without
+  closing-starts =
+      let front : length (take place l) ≡ place = length-take-le place l (omega arith) in
+      record {
+        from = omega arith;
+        most = h;
+        same-length = refl;
+        closed = sym (take-at (take place l) (drop (suc place) l) place front);
+        rest = λ k b. refl;
+      }
 
-  module _ (list : List ℕ) (i held : ℕ) (m : Moving l number list i held) where
-    pub lower : (held ≡ number → ⊥) → m .place < i
-    lower n =
-        by-number (m .place) i
-        (λ e. absurd (n (m .holds ∙ ap (λ j. getD l j 0) (sym e) ∙ m .its)))
-        (λ e. omega (arith, m .not-past))
-
-    pub moving-on : (held ≡ number → ⊥) → (j : ℕ) → suc j ≡ i → Moving l number (set list j held) j (getD list j 0)
-    moving-on n j e =
-        let low = lower n in
-        let h : suc j < length l = omega (arith, m .inside) in
-        let was : list ≡ moved l (suc j) = m .so-far ∙ ap (moved l) (sym e) in
+  module _ (list : List ℕ) (i : ℕ) (c : Closing l place list i) where
+    pub closing-on : i < length l - 1 → Closing l place (set list i (getD list (i + 1) 0)) (i + 1)
+    closing-on b =
+        let next : i + 1 ≡ suc i = omega arith in
+        let v = getD list (i + 1) 0 in
+        let is-v : v ≡ getD (without place l) i 0 =
+        c .rest (i + 1) (omega arith) ∙ ap (λ n. getD l n 0) next ∙ sym (without-after l place h i (c .from)) in
         record {
-          inside = omega arith;
-          so-far = ap (λ t. set t j held) was ∙ ap (set (moved l (suc j)) j) (m .holds ∙ ap (λ i. getD l i 0) (sym e)) ∙ moved-next l j h;
-          holds = ap (λ t. getD t j 0) was ∙ moved-reads l j h;
-          place = m .place;
-          not-past = omega arith;
-          its = m .its;
-          same-length = length-set list j held ∙ m .same-length;
+          from = omega (arith, c .from);
+          most = omega arith;
+          same-length = length-set list i v ∙ c .same-length;
+          closed =
+              ap (λ n. take n (set list i v)) next
+              ∙ take-suc-set list i v (omega (arith, c .same-length))
+              ∙ ap (λ t. t ++ (v ∷ [])) (c .closed)
+              ∙ ap (λ x. take i (without place l) ++ (x ∷ [])) is-v
+              ∙ sym (take-suc (without place l) i 0 (omega (arith, length-without l place h)))
+              ∙ ap (λ n. take n (without place l)) (sym next);
+          rest = λ k g. getD-set-other list i k v 0 (λ e. omega arith) ∙ c .rest k (omega arith);
         }
 
-    pub moving-ends : held ≡ number → Distinct l → take (length l - 1) list ≡ butOne number l
-    moving-ends e d =
-        ap (take (length l - 1)) (m .so-far)
-        ∙ moved-taken l i (m .inside)
-        ∙ sym (ap (λ n. butOne n l) (sym e ∙ m .holds) ∙ without-one l d i (m .inside))
+    pub closing-ends : length l - 1 ≤ i → take (length l - 1) list ≡ without place l
+    closing-ends b =
+        let last : length l - 1 ≡ i = omega (arith, c .most) in
+        ap (λ n. take n list) last
+        ∙ c .closed
+        ∙ take-all i (without place l) (omega (arith, length-without l place h))

@@ -1,3 +1,4 @@
 -- The search for the two subgroups that join.
+pub mod Listed
 pub mod Search
 pub mod Seekers

@@ -2,3 +2,5 @@
 pub mod heads;
 pub mod list;
 pub mod search;
+pub mod target;
+pub mod words;

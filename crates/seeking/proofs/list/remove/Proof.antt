@@ -1,81 +1,47 @@
--- The invariant: the places from i on have taken over what stood one further, and what stood at i is held. The number stands no further than i, which
--- is the measure.
+-- The place of the number is closed in both lists.
 use Prim.Native.Nat.{_-_}
-use mathlib.Core.Path.{refl}
+use mathlib.Core.Path.{sym, ap, _∙_}
 use native.Mathlib.Omega.{arith}
-use Rattle.lists.proofs.KeepLength.{mem-length}
-use Rattle.seeking.proofs.Removing.{Moving, moving-starts, lower, moving-on, moving-ends}
+use borrow.Author.Needs.{needs}
+use lib.ListN.{take}
 use Rattle.seeking.proofs.list.remove.Statement.{statement}
 use Rattle.seeking.proofs.list.remove.Tie as tie
 
-abbrev Inv-loop : tie.InvT-loop
-Inv-loop list₀ number i₀ held₀ list i held = Moving list₀ number list i held
+place-of-requires : tie.Need-place-of-requires
+place-of-requires c κs = search needs
 
-abbrev μ-loop : tie.MeasureT-loop
-μ-loop list₀ number i₀ held₀ list i held = i
+close-numbers-requires : tie.Need-close-numbers-requires
+close-numbers-requires c κs = search needs
 
-sub-i : tie.Need-sub-i Inv-loop μ-loop
-sub-i c = omega (arith, mem-length (c .pre .1))
+close-words-requires : tie.Need-close-words-requires
+close-words-requires c κs = search needs
 
-mul-held : tie.Need-mul-held Inv-loop μ-loop
-mul-held c = omega arith
+same-length : tie.Need-same-length
+same-length c = search needs
 
-slice-read-held : tie.Need-slice-read-held Inv-loop μ-loop
-slice-read-held c = omega (arith, mem-length (c .before .pre .1))
+same-length-2 : tie.Need-same-length-2
+same-length-2 c = search needs
 
-loop-holds : tie.Need-loop-holds Inv-loop μ-loop
-loop-holds c = let s = c .before in moving-starts (s .args .list .now) (s .args .number) (s .pre .1) _ refl
-
-sub-i-2 : tie.Need-sub-i-2 Inv-loop μ-loop
-sub-i-2 c = let l = c .before .loop in omega (arith, lower (c .before .before .before .args .list .now) (c .before .before .before .args .number) (l .list) (l .i) (l .held) (l .inv) (c .loop-test .taken))
-
-mul-next : tie.Need-mul-next Inv-loop μ-loop
-mul-next c = omega arith
-
-slice-read-next : tie.Need-slice-read-next Inv-loop μ-loop
-slice-read-next c = let l = c .before .before .loop in omega (arith, l .inv .inside, l .inv .same-length)
-
-mul-list : tie.Need-mul-list Inv-loop μ-loop
-mul-list c = omega arith
-
-slice-write-list : tie.Need-slice-write-list Inv-loop μ-loop
-slice-write-list c = let l = c .before .before .loop in omega (arith, l .inv .inside, l .inv .same-length)
-
-loop-less : tie.Need-loop-less Inv-loop μ-loop
-loop-less c = let l = c .before .before .loop in omega (arith, lower (c .before .before .before .before .args .list .now) (c .before .before .before .before .args .number) (l .list) (l .i) (l .held) (l .inv) (c .before .loop-test .taken))
-
-loop-again : tie.Need-loop-again Inv-loop μ-loop
-loop-again c =
-    let a = c .before .before .before .before .args in
-    let l = c .before .before .loop in
-    let low = lower (a .list .now) (a .number) (l .list) (l .i) (l .held) (l .inv) (c .before .loop-test .taken) in
-    moving-on (a .list .now) (a .number) (l .list) (l .i) (l .held) (l .inv) (c .before .loop-test .taken) (l .i - 1) (omega arith)
-
-same-length : tie.Need-same-length Inv-loop μ-loop
-same-length c = c .before .loop .inv .same-length
-
-returns : tie.Need-returns Inv-loop μ-loop
+returns : tie.Need-returns
 returns c =
-    let s = c .before .before .before in
-    let l = c .before .loop in
-    moving-ends (s .args .list .now) (s .args .number) (l .list) (l .i) (l .held) (l .inv) (c .loop-test .left) (s .pre .0)
+    let w = c .before .before .close-words in
+    let n = c .before .before .before .before .before .before .close-numbers in
+    let p = c .before .before .before .before .before .before .before .before .place-of in
+    let s = c .before .before .before .before .before .before .before .before .before .before .before .before in
+    record {
+      place = p .result;
+      at = p .ensures;
+      new-list = n .ensures;
+      new-words = ap (λ k. take (k - 1) (w .last .0)) (sym (s .pre .2)) ∙ w .ensures;
+    }
 
 pub remove-spec : {M : Type 1} → statement M
 remove-spec =
     tie.close
     (tie.spec
-    Inv-loop
-    μ-loop
-    sub-i
-    mul-held
-    slice-read-held
-    loop-holds
-    sub-i-2
-    mul-next
-    slice-read-next
-    mul-list
-    slice-write-list
-    loop-less
-    loop-again
+    place-of-requires
+    close-numbers-requires
+    close-words-requires
     same-length
+    same-length-2
     returns)
