@@ -1,11 +1,11 @@
 -- The list of the numbers that are still there: what stands in it, and the list after a join.
-use Prim.Native.Nat.{ℕ, _-_, _<_}
+use Prim.Native.Nat.{ℕ, _*_, _-_, _<_}
 use mathlib.Core.Bool.{true, not, _&&_}
 use mathlib.Core.List.{List, List·Memᴰ}
 use mathlib.Core.Path.{_≡_, sym, ap, _∙_}
 use native.Mathlib.Nat.{zero-add}
 use native.Mathlib.Omega.{arith}
-use borrow.Author.Tests.{eq-eqb}
+use borrow.Author.Tests.{eq-eqb, ne-eqb, eqb-false, not-true}
 use lib.Dec.{eqb}
 use lib.ListN.{length, getD}
 use Rattle.lists.specs.Keep.{keep}
@@ -15,24 +15,42 @@ use Rattle.lists.proofs.KeepTests.{keep-same, keep-keep}
 use Rattle.lists.proofs.Members.{range-mem, mem-range, keep-mem, mem-keep}
 use Rattle.lists.proofs.Position.{getD-mem}
 use Rattle.lists.proofs.Range.{length-range, getD-range}
-use Rattle.lists.proofs.Sort.{pairs-kept}
+use Rattle.lists.proofs.Pairs.{pairs-keep, pairs-at}
+use Rattle.lists.proofs.Sort.{Pairs, pairs-kept}
+use Rattle.bitset.specs.Entries.{wordAt}
+use Rattle.bitset.specs.declared.entries.BitSet.{BitSet}
+use Rattle.bitset.proofs.Words.{row-reads}
 use Rattle.joins.specs.Subgroup.{Subgroup}
+use Rattle.seeking.specs.Listed.{Ascends}
 use Rattle.seeking.specs.Search.{Readable}
 use Rattle.seeking.proofs.Kept.{all-kept}
 use Rattle.seeking.proofs.Removing.{butOne}
 use Rattle.merge.specs.Tables.{Mergeable}
-use Rattle.merge.specs.Engine.{isThere, listed, Joinable, JoinedTables}
+use Rattle.merge.specs.Engine.{isThere, listed, Sound, Joinable, JoinedTables}
 use Rattle.merge.proofs.There.{small-size}
-use Rattle.merge.proofs.Joining.{there-now, joined-count}
+use Rattle.merge.proofs.Joining.{there-now, joined-count, joined-sound, row-of-other}
 
 module _ (numbers : List ℕ) where
   pub listed-distinct : Distinct (listed numbers)
   unfolding listed
   listed-distinct = pairs-kept (λ x y. x ≡ y → ⊥) (isThere numbers) 0 (length numbers) (λ l m h u p q e. omega arith)
 
+  ascending : Pairs (λ x y. x < y) (listed numbers)
+  unfolding listed
+  ascending = pairs-kept (λ x y. x < y) (isThere numbers) 0 (length numbers) (λ l m h u p q. omega arith)
+
+  pub listed-ascends : Ascends (listed numbers)
+  listed-ascends i j = pairs-at ascending i j 0
+
+  pub left-ascends : (s : ℕ) → Ascends (butOne s (listed numbers))
+  left-ascends s i j = pairs-at (pairs-keep (λ n. not (eqb n s)) ascending) i j 0
+
   pub listed-in : (i : ℕ) → i < length numbers → isThere numbers i ≡ true → List·Memᴰ i (listed numbers)
   unfolding listed
   listed-in i h e = mem-keep (isThere numbers) i (mem-range 0 (length numbers) i (omega arith) (omega arith)) e
+
+  pub left-in : (s i : ℕ) → i < length numbers → isThere numbers i ≡ true → (i ≡ s → ⊥) → List·Memᴰ i (butOne s (listed numbers))
+  left-in s i h e n = mem-keep (λ n. not (eqb n s)) i (listed-in i h e) (ap not (ne-eqb i s n))
 
   pub in-listed : (i : ℕ) → List·Memᴰ i (listed numbers) → i < length numbers
   unfolding listed
@@ -65,3 +83,17 @@ listed-joined s t numbers sizes bits g n z b after =
     ∙ keep-same (isThere n) (λ i. isThere numbers i && not (eqb i (s .number))) (range 0 (length numbers))
     (λ i m. let r = range-mem 0 (length numbers) i m in there-now s t numbers sizes bits g n z b after i (omega arith))
     ∙ sym (keep-keep (λ i. not (eqb i (s .number))) (isThere numbers) (range 0 (length numbers)))
+
+-- a join leaves the first words of the others as they were
+pub first-word-kept : (s t : Subgroup) (numbers sizes bits : List ℕ) (g : Joinable s t numbers sizes bits) (n z b : List ℕ)
+    → JoinedTables s t numbers sizes bits n z b → Sound numbers sizes bits
+    → (i : ℕ) → List·Memᴰ i (butOne (s .number) (listed numbers)) → (i ≡ t .number → ⊥) → getD b (4 * i) 0 ≡ getD bits (4 * i) 0
+first-word-kept s t numbers sizes bits g n z b after sound i m not-t =
+    let k = keep-mem (λ n. not (eqb n (s .number))) (listed numbers) i m in
+    let inside : i < length numbers = in-listed numbers i (k .0) in
+    let tables = joined-sound s t numbers sizes bits g n z b after sound .tables in
+    let same = joined-count s t numbers sizes bits g n z b after in
+    let not-s = eqb-false i (s .number) (not-true (eqb i (s .number)) (k .1)) in
+    ap (λ (r : BitSet). wordAt r 0) (row-reads b i (omega (arith, same, tables .bits-fit)))
+    ∙ ap (λ (r : BitSet). wordAt r 0) (row-of-other s t numbers sizes bits g n z b after i inside not-s not-t)
+    ∙ sym (ap (λ (r : BitSet). wordAt r 0) (row-reads bits i (omega (arith, g .tables .bits-fit))))

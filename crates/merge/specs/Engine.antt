@@ -12,6 +12,7 @@ use Rattle.bitset.specs.Entries.{empty, rowOf}
 use Rattle.bitset.specs.Rows.{withRow}
 use Rattle.joins.specs.Subgroup.{Subgroup, united}
 use Rattle.joins.specs.Held.{vanished}
+use Rattle.seeking.specs.Listed.{FirstWords}
 use Rattle.seeking.specs.Seekers.{Heads}
 use Rattle.merge.specs.Merge.{Merging, Join, stop, joins, nextJoin, follow, mergeSteps}
 use Rattle.merge.specs.Tables.{subgroupAt, finalSizes, finalBits, Mergeable}
@@ -82,12 +83,14 @@ abbrev pub makesJoin : Join → Bool
 makesJoin stop = false
 makesJoin (joins s t) = true
 
--- the next join was made, if there is one; then the list of those still there has one number less, and the heads stand for their blocks
-pub record Turn (threshold : Float) (made : Bool) (numbers sizes bits there numbers′ sizes′ bits′ there′ heads′ : List ℕ) : Type 0 where
+-- the next join was made, if there is one; then the list of those still there has one number less, the first words stand beside it, and the heads stand
+-- for their blocks
+pub record Turn (threshold : Float) (made : Bool) (numbers sizes bits there numbers′ sizes′ bits′ there′ words′ heads′ : List ℕ) : Type 0 where
   pub answer : made ≡ makesJoin (nextJoin threshold (thereIn numbers sizes bits))
   pub state : stateOf numbers′ sizes′ bits′ ≡ follow (nextJoin threshold (thereIn numbers sizes bits)) (stateOf numbers sizes bits) (λ m. m)
   pub sound : Sound numbers′ sizes′ bits′
   pub list : made ≡ true → take (length there - 1) there′ ≡ listed numbers′
+  pub beside : made ≡ true → FirstWords (listed numbers′) words′ bits′
   pub heads : made ≡ true → Heads threshold sizes′ heads′
 
 -- all joins were made, at most one for each subgroup

@@ -8,12 +8,15 @@ use seeking::heads::fill_heads;
 use seeking::heads::refresh;
 use seeking::list::remove;
 use seeking::search::find_seeker;
-use seeking::search::find_target;
+use seeking::target::find_target;
+use seeking::words::fill_words;
+use seeking::words::rewrite_word;
 ghost use mathlib.Core.Path.{_≡_};
 ghost use Prim.Native.Nat.{_+_, _*_, _≤_, _<_};
 ghost use lib.ListN.{length};
 ghost use Rattle.lists.specs.Range.{range};
 ghost use Rattle.joins.specs.Held.{held};
+ghost use Rattle.seeking.specs.Listed.{FirstWords};
 ghost use Rattle.seeking.specs.Seekers.{Heads};
 ghost use Rattle.merge.specs.Tables.{Mergeable, mergeOf};
 ghost use Rattle.merge.specs.Engine.{listed, Sound, Joinable, JoinedTables, Turn, Turns, Final};
@@ -43,12 +46,14 @@ fn join_next(
     sizes: &mut [u64],
     bits: &mut [u64],
     there: &mut [u32],
+    words: &mut [u64],
     heads: &mut [u32],
     threshold: f64,
 ) -> bool
-    requires { ⌜ Sound (now numbers) (now sizes) (now bits) × (now there ≡ listed (now numbers)) × Heads threshold (now sizes) (now heads) ⌝ }
+    requires { ⌜ Sound (now numbers) (now sizes) (now bits) × (now there ≡ listed (now numbers)) × Heads threshold (now sizes) (now heads)
+        × FirstWords (listed (now numbers)) (now words) (now bits) × (length (now words) ≡ length (now there)) ⌝ }
     ensures { λ r. ⌜ Turn threshold r (now (numbers .entry)) (now (sizes .entry)) (now (bits .entry)) (now (there .entry))
-        (now (numbers .exit)) (now (sizes .exit)) (now (bits .exit)) (now (there .exit)) (now (heads .exit)) ⌝ }
+        (now (numbers .exit)) (now (sizes .exit)) (now (bits .exit)) (now (there .exit)) (now (words .exit)) (now (heads .exit)) ⌝ }
 {
     let seeker = find_seeker(heads, sizes, threshold);
     if !seeker.found {
@@ -56,15 +61,16 @@ fn join_next(
     }
     let from = seeker.candidate.number;
     let joining = subgroup_at(sizes, bits, from);
-    remove(there, from as u32);
+    remove(there, words, from as u32);
     let left = there.len() - 1;
-    let target = find_target(&there[..left], sizes, bits, joining.bits);
+    let target = find_target(&there[..left], words, sizes, bits, joining.bits);
     if !target.found {
         return false;
     }
     let to = target.candidate.number;
     let joined = subgroup_at(sizes, bits, to);
     join(numbers, sizes, bits, joining, joined);
+    rewrite_word(words, &there[..left], bits, to);
     refresh(heads, sizes, threshold, from);
     refresh(heads, sizes, threshold, to);
     true
@@ -77,23 +83,78 @@ fn join_all(
     sizes: &mut [u64],
     bits: &mut [u64],
     there: &mut [u32],
+    words: &mut [u64],
     heads: &mut [u32],
     threshold: f64,
 )
     requires { ⌜ Sound (now numbers) (now sizes) (now bits) × (now numbers ≡ range 0 (length (now there)))
-        × (length (now sizes) ≤ 16 * length (now heads)) × (16 * length (now heads) < length (now sizes) + 16) ⌝ }
+        × (length (now words) ≡ length (now there)) × (length (now sizes) ≤ 16 * length (now heads))
+        × (16 * length (now heads) < length (now sizes) + 16) ⌝ }
     ensures { λ _. ⌜ Turns threshold (now (numbers .entry)) (now (sizes .entry)) (now (bits .entry))
         (now (numbers .exit)) (now (sizes .exit)) (now (bits .exit)) ⌝ }
 {
     lists::fill::fill_range(there);
+    fill_words(words, bits);
     fill_heads(heads, sizes, threshold);
     let mut left = there.len();
     while 0 < left {
-        if !join_next(numbers, sizes, bits, &mut there[..left], heads, threshold) {
+        if !join_next(
+            numbers,
+            sizes,
+            bits,
+            &mut there[..left],
+            &mut words[..left],
+            heads,
+            threshold,
+        ) {
             return;
         }
         left = left - 1;
     }
+}
+
+// Few subgroups get short tables, which cost less to clear.
+fn join_few(numbers: &mut [u32], sizes: &mut [u64], bits: &mut [u64], threshold: f64)
+    requires { ⌜ Sound (now numbers) (now sizes) (now bits) × (now numbers ≡ range 0 (length (now numbers))) × (length (now numbers) ≤ 1024) ⌝ }
+    ensures { λ _. ⌜ Turns threshold (now (numbers .entry)) (now (sizes .entry)) (now (bits .entry))
+        (now (numbers .exit)) (now (sizes .exit)) (now (bits .exit)) ⌝ }
+{
+    let count = numbers.len();
+    let blocks = (count + 15) / 16;
+    let mut there = [0u32; 1024];
+    let mut words = [0u64; 1024];
+    let mut heads = [0u32; 64];
+    join_all(
+        numbers,
+        sizes,
+        bits,
+        &mut there[..count],
+        &mut words[..count],
+        &mut heads[..blocks],
+        threshold,
+    );
+}
+
+// Tables for as many subgroups as there can be.
+fn join_many(numbers: &mut [u32], sizes: &mut [u64], bits: &mut [u64], threshold: f64)
+    requires { ⌜ Sound (now numbers) (now sizes) (now bits) × (now numbers ≡ range 0 (length (now numbers))) ⌝ }
+    ensures { λ _. ⌜ Turns threshold (now (numbers .entry)) (now (sizes .entry)) (now (bits .entry))
+        (now (numbers .exit)) (now (sizes .exit)) (now (bits .exit)) ⌝ }
+{
+    let count = numbers.len();
+    let blocks = (count + 15) / 16;
+    let mut there = [0u32; 4096];
+    let mut words = [0u64; 4096];
+    let mut heads = [0u32; 256];
+    join_all(
+        numbers,
+        sizes,
+        bits,
+        &mut there[..count],
+        &mut words[..count],
+        &mut heads[..blocks],
+        threshold,
+    );
 }
 
 // The merge in place: sizes and bits are those of the subgroups on entry, and the numbers are written.
@@ -104,21 +165,14 @@ pub fn merge_in_place(numbers: &mut [u32], sizes: &mut [u64], bits: &mut [u64], 
         (now (numbers .exit)) (now (sizes .exit)) (now (bits .exit)) ⌝ }
 {
     lists::fill::fill_range(numbers);
-    let count = numbers.len();
-    if count <= 1 {
+    if numbers.len() <= 1 {
         return;
     }
     if 0.0 < threshold {
-        let mut there = [0u32; 4096];
-        let mut heads = [0u32; 256];
-        let blocks = (count + 15) / 16;
-        join_all(
-            numbers,
-            sizes,
-            bits,
-            &mut there[..count],
-            &mut heads[..blocks],
-            threshold,
-        );
+        if numbers.len() <= 1024 {
+            join_few(numbers, sizes, bits, threshold);
+        } else {
+            join_many(numbers, sizes, bits, threshold);
+        }
     }
 }

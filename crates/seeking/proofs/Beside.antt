@@ -1,14 +1,14 @@
 -- The words beside a list: what a block of them rules out, and that they stay the first words where a number is taken off or a row changes.
 use Prim.Native.Nat.{ℕ, zero, suc, _+_, _*_, _-_, _≤_, _<_}
 use mathlib.Core.Bool.{Bool, true, false, cond}
-use mathlib.Core.List.{List, map}
+use mathlib.Core.List.{List, _++_, map}
 use mathlib.Core.Path.{_≡_, refl, sym, ap, _∙_}
 use native.Mathlib.Nat.{zero-add}
 use native.Mathlib.Omega.{arith}
 use borrow.Author.Tests.{ltb-true, ltb-false}
 use lib.Dec.{ltb}
-use lib.ListN.{length, getD, set, take, length-set}
-use lib.Seq.{getD-take, getD-set-same, getD-set-other}
+use lib.ListN.{length, getD, set, take, length-set, length-append, List·getD-append}
+use lib.Seq.{length-take-le, getD-take, getD-set-same, getD-set-other}
 use Rattle.lists.specs.Range.{range}
 use Rattle.lists.proofs.Map.{getD-map-range}
 use Rattle.lists.proofs.Range.{length-range, getD-range}
@@ -58,6 +58,19 @@ first-words-all there words bits n is-there is-words long =
     }
 
 module _ (there words bits : List ℕ) (first : FirstWords there words bits) where
+  -- a front of the words that is long enough, and more words behind them
+  pub first-words-front : (n : ℕ) → n ≤ length words → length there ≤ n → FirstWords there (take n words) bits
+  first-words-front n h l = record {
+    room = omega (arith, length-take-le n words h);
+    each = λ i b. getD-take n words i 0 (omega arith) ∙ first .each i b;
+  }
+
+  pub first-words-longer : (rest : List ℕ) → FirstWords there (words ++ rest) bits
+  first-words-longer rest = record {
+    room = omega (arith, length-append words rest, first .room);
+    each = λ i b. List·getD-append words rest 0 i (omega (arith, first .room)) ∙ first .each i b;
+  }
+
   pub first-words-removed : (number : ℕ) (there′ words′ left : List ℕ) → length words ≡ length there → length words′ ≡ length there
       → (r : Removed number there words there′ words′) → left ≡ without (r .place) there → FirstWords left words′ bits
   first-words-removed number there′ words′ left long long′ r is-left =

@@ -83,7 +83,13 @@ fn or_block(
 }
 
 // The subgroup that the seeker joins: of those listed the nearest.
-pub fn find_target(there: &[u32], words: &[u64], sizes: &[u64], bits: &[u64], wanted: BitSet) -> Best
+pub fn find_target(
+    there: &[u32],
+    words: &[u64],
+    sizes: &[u64],
+    bits: &[u64],
+    wanted: BitSet,
+) -> Best
     requires { ⌜ Searchable (now there) (now words) (now sizes) (now bits) ⌝ }
     ensures { λ r. ⌜ foundOf r ≡ least comesFirst (map (targetAt (now (sizes .entry)) (now (bits .entry)) wanted) (now (there .entry))) ⌝ }
 {
