@@ -43,6 +43,19 @@ impl Chains {
         self.first[owner] = index(self.records.len());
     }
 
+    /// Moves each record to a number of its own.
+    fn move_to(&mut self, numbers: &[usize]) {
+        let new = |old: u32| if old == 0 { 0 } else { index(numbers[old as usize - 1]) };
+        let mut moved = self.records.clone();
+        for (old, record) in self.records.iter().enumerate() {
+            moved[numbers[old] - 1] = Record { module: record.module, next: new(record.next) };
+        }
+        self.records = moved;
+        for first in &mut self.first {
+            *first = new(*first);
+        }
+    }
+
     /// How long each module's chain is.
     pub fn lengths(&self) -> impl Iterator<Item = usize> {
         let next = |at: &usize| (self.records[*at].next as usize).checked_sub(1);
@@ -94,15 +107,14 @@ pub fn add_circle(rng: &mut Rng, chains: &mut Chains, modules: usize, length: us
 pub fn renumber(rng: &mut Rng, chains: &mut Chains) {
     let mut numbers: Vec<usize> = (1..=chains.records.len()).collect();
     rng.shuffle(&mut numbers);
-    let new = |old: u32| if old == 0 { 0 } else { index(numbers[old as usize - 1]) };
-    let mut moved = chains.records.clone();
-    for (old, record) in chains.records.iter().enumerate() {
-        moved[numbers[old] - 1] = Record { module: record.module, next: new(record.next) };
-    }
-    chains.records = moved;
-    for first in &mut chains.first {
-        *first = new(*first);
-    }
+    chains.move_to(&numbers);
+}
+
+/// Gives the records the numbers from the last to the first: where each went on to an earlier one,
+/// each goes on to a later one, as in the tables of a host that fills them in order.
+pub fn turn_round(chains: &mut Chains) {
+    let numbers: Vec<usize> = (1..=chains.records.len()).rev().collect();
+    chains.move_to(&numbers);
 }
 
 /// A number that fits in 32 bits.

@@ -6,7 +6,7 @@ use text::{Build, Module, Record};
 
 use super::{
     largest::RECORDS,
-    records::{Chains, add_circle, index, renumber},
+    records::{Chains, add_circle, index, renumber, turn_round},
 };
 use crate::rng::Rng;
 
@@ -34,7 +34,11 @@ pub fn renumbered(rng: &mut Rng, build: &Build) -> Renumbered {
         // There is no room to lay shared chains apart, so they stay as they lie.
         renamed(build, &numbers)
     };
-    renumber(rng, &mut chains);
+    if rng.one_in(2) {
+        renumber(rng, &mut chains);
+    } else {
+        turn_round(&mut chains);
+    }
     let mut modules = vec![Module::default(); numbers.len()];
     for (old, new) in numbers.iter().enumerate() {
         let first_record = chains.first[*new as usize];
@@ -107,7 +111,7 @@ fn laid(rng: &mut Rng, named: &Named) -> Chains {
 
 #[cfg(test)]
 mod tests {
-    use text::{Build, Call, Question};
+    use text::{Build, Call, Question, Record};
 
     use super::{named, renumbered, translated};
     use crate::{generate, rng::Rng};
@@ -123,9 +127,16 @@ mod tests {
         })
     }
 
+    /// Whether some record goes on to another, and none to itself or an earlier one.
+    fn ascends(build: &Build) -> bool {
+        let goes_on = |record: &Record| record.next > 0;
+        let later = |(record, number): (&Record, u32)| !goes_on(record) || number < record.next;
+        build.records.iter().any(goes_on) && build.records.iter().zip(1..).all(later)
+    }
+
     #[test]
     fn a_second_build_is_alike_but_for_load_numbers() {
-        let (mut other_numbers, mut other_counts) = (0, 0);
+        let (mut other_numbers, mut other_counts, mut ascending) = (0, 0, 0);
         for case in 0..2_000 {
             let mut rng = Rng::for_case(11, case);
             let Question::Chunks(chunks) = generate::plain(Call::Chunks, &mut rng) else {
@@ -138,7 +149,9 @@ mod tests {
             other_numbers +=
                 u32::from(second.numbers.iter().zip(0..).any(|(new, old)| *new != old));
             other_counts += u32::from(second.build.records.len() != first.records.len());
+            ascending += u32::from(ascends(&second.build));
         }
         assert!(other_numbers > 1_000 && other_counts > 500, "{other_numbers} {other_counts}");
+        assert!(ascending > 200, "{ascending} with chains that only go on to later records");
     }
 }
