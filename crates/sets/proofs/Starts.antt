@@ -18,7 +18,8 @@ use Rattle.walk.specs.Names.{Eligible, Names}
 use Rattle.walk.specs.Walk.{Walk, markedCount, WalkState, visited}
 use Rattle.walk.proofs.Reached.{marks-of}
 use Rattle.walk.proofs.State.{state-none}
-use Rattle.walk.proofs.Visit.{Visited, visit-all}
+use Rattle.walk.specs.Visited.{Visited}
+use Rattle.walk.proofs.Visit.{visit-all}
 use Rattle.sets.specs.Captured.{StartsIn}
 use Rattle.sets.proofs.Counting.{count-both}
 

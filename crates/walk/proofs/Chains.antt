@@ -18,11 +18,8 @@ use Rattle.records.proofs.Table.{Good}
 use Rattle.walk.specs.Names.{Eligible}
 use Rattle.walk.specs.Followed.{Followed}
 use Rattle.walk.specs.Walk.{Walk, WalkState, visited}
+use Rattle.walk.specs.Chains.{namedFrom}
 use Rattle.walk.proofs.Visit.{visit-one, visit-ineligible, visit-marked}
-
--- the modules named from record r on
-abbrev pub namedFrom : List ℕ → List ℕ → ℕ → ℕ → List ℕ
-namedFrom dependency next d r = map (λ r. getD dependency r 0) (chainFrom next d r)
 
 -- visits change nothing where each module is marked already, if it is eligible
 visit-done : (flags : List ℕ) (w : Walk) (ks : List ℕ) → ((k : ℕ) → List·Memᴰ k ks → Eligible flags k → getD (w .marks) k 0 ≡ 1)

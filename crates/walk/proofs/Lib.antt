@@ -4,6 +4,7 @@ pub mod State
 pub mod Visit
 pub mod Chains
 pub mod Passing
+pub mod SideBySide
 pub mod Walking
 pub mod Trail
 pub mod MarksUndone

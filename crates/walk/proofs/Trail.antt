@@ -21,7 +21,8 @@ use Rattle.forget.specs.Unfollowed.{unfollowed, ForgetAllReady}
 use Rattle.walk.specs.Names.{Eligible}
 use Rattle.walk.specs.Followed.{Followed}
 use Rattle.walk.specs.Walk.{Walk, Walking, visited}
-use Rattle.walk.proofs.Visit.{Visited, visit-all}
+use Rattle.walk.specs.Visited.{Visited}
+use Rattle.walk.proofs.Visit.{visit-all}
 use Rattle.walk.proofs.Walking.{list-within}
 
 pub unfollowed-bytes : {followed : List ℕ} → followed ≡ unfollowed → length followed ≡ 65536

@@ -3,7 +3,7 @@
 use Prim.Native.Nat.{ℕ, _≤_, _<_}
 use mathlib.Core.Bool.{Bool, true, false, cond, _&&_, and-false, false≢true}
 use mathlib.Core.List.{List, [], _∷_, _++_, foldl, List·Memᴰ, List·Memᴰ·head, List·Memᴰ·tail, List·Memᴰ·append-cases, List·Memᴰ·eq-of-singleton, List·Memᴰ·not-nil, Memᴰ·append-left, Memᴰ·append-right}
-use mathlib.Core.Logic.{_⊎_, inl, inr, ⊎-elim}
+use mathlib.Core.Logic.{_↔_, _⊎_, inl, inr, ⊎-elim}
 use mathlib.Core.Path.{_≡_, refl, sym, ap, _∙_, subst}
 use native.Mathlib.Nat.{le-refl, le-trans, lt-of-lt-of-le}
 use native.Mathlib.Omega.{arith}
@@ -14,6 +14,7 @@ use lib.Seq.{getD-set-same}
 use Rattle.flags.specs.Flags.{eligibleAt}
 use Rattle.walk.specs.Names.{Eligible}
 use Rattle.walk.specs.Walk.{Walk, WalkState, found, visited}
+use Rattle.walk.specs.Visited.{Visited}
 use Rattle.walk.proofs.State.{in-marks, kept-mark, kept-place, now-marked, state-found}
 
 -- ---- the three ways of a visit
@@ -33,18 +34,8 @@ module _ (flags : List ℕ) (w : Walk) (k : ℕ) where
 
 -- ---- what visits keep
 
--- what visiting the modules ks makes of w
-pub record Visited (flags : List ℕ) (n : ℕ) (ks : List ℕ) (w w′ : Walk) : Type 0 where
-  pub state : WalkState flags n w′
-  pub marks-stay : (m : ℕ) → getD (w .marks) m 0 ≡ 1 → getD (w′ .marks) m 0 ≡ 1
-  pub places-stay : (i : ℕ) → i < w .tail → getD (w′ .queue) i 0 ≡ getD (w .queue) i 0
-  pub longer : w .tail ≤ w′ .tail
-  pub queue-length : length (w′ .queue) ≡ length (w .queue)
-  pub all : (k : ℕ) → List·Memᴰ k ks → Eligible flags k → getD (w′ .marks) k 0 ≡ 1
-  pub only : (m : ℕ) → getD (w′ .marks) m 0 ≡ 1 → (getD (w .marks) m 0 ≡ 1) ⊎ (List·Memᴰ m ks × Eligible flags m)
-
 -- nothing to do: each of the modules is marked already, if it is eligible
-none-new : (flags : List ℕ) (n : ℕ) (ks : List ℕ) (w : Walk) → WalkState flags n w → ((k : ℕ) → List·Memᴰ k ks → Eligible flags k → getD (w .marks) k 0 ≡ 1) → Visited flags n ks w w
+pub none-new : (flags : List ℕ) (n : ℕ) (ks : List ℕ) (w : Walk) → WalkState flags n w → ((k : ℕ) → List·Memᴰ k ks → Eligible flags k → getD (w .marks) k 0 ≡ 1) → Visited flags n ks w w
 none-new flags n ks w s all =
     record {
       state = s;
@@ -57,7 +48,7 @@ none-new flags n ks w s all =
     }
 
 -- some modules, and then others
-then-visited : {flags : List ℕ} {n : ℕ} (ks : List ℕ) {js : List ℕ} {u v w : Walk} → Visited flags n ks u v → Visited flags n js v w → Visited flags n (ks ++ js) u w
+pub then-visited : {flags : List ℕ} {n : ℕ} (ks : List ℕ) {js : List ℕ} {u v w : Walk} → Visited flags n ks u v → Visited flags n js v w → Visited flags n (ks ++ js) u w
 then-visited {flags} ks {js} {u} a b =
     record {
       state = b .state;
@@ -71,6 +62,20 @@ then-visited {flags} ks {js} {u} a b =
   where
     early : (m : ℕ) → (getD (u .marks) m 0 ≡ 1) ⊎ (List·Memᴰ m ks × Eligible flags m) → (getD (u .marks) m 0 ≡ 1) ⊎ (List·Memᴰ m (ks ++ js) × Eligible flags m)
     early m o = ⊎-elim (λ z. inl z) (λ t. inr (Memᴰ·append-left js (t .0), t .1)) o
+
+-- the same modules in another order
+pub visited-same : {flags : List ℕ} {n : ℕ} {ks js : List ℕ} {w w′ : Walk} → ((k : ℕ) → List·Memᴰ k ks ↔ List·Memᴰ k js)
+    → Visited flags n ks w w′ → Visited flags n js w w′
+visited-same same v =
+    record {
+      state = v .state;
+      marks-stay = v .marks-stay;
+      places-stay = v .places-stay;
+      longer = v .longer;
+      queue-length = v .queue-length;
+      all = λ k m e. v .all k (same k .1 m) e;
+      only = λ m e. ⊎-elim inl (λ t. inr (same m .0 (t .0), t .1)) (v .only m e);
+    }
 
 -- one module
 module _ (flags : List ℕ) (n : ℕ) (w : Walk) (s : WalkState flags n w) (k : ℕ) (h : k < n) where

@@ -3,3 +3,5 @@ pub mod Reached
 pub mod Names
 pub mod Followed
 pub mod Walk
+pub mod Visited
+pub mod Chains

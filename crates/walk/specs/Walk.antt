@@ -97,13 +97,6 @@ pub record PlainReady (flags first dependency next : List ℕ) (n d : ℕ) (w : 
   pub tables : WalkTables flags first dependency next n d
   pub state : WalkState flags n w
 
--- the chain of module m can be gone along to its end, after no more records than there are
-pub record FollowPlainReady (flags first dependency next : List ℕ) (n d : ℕ) (w : Walk) (gone m : ℕ) : Type 0 where
-  pub tables : WalkTables flags first dependency next n d
-  pub state : WalkState flags n w
-  pub few : gone ≤ d
-  pub module-in : m < n
-
 -- what the part with marks needs: `start` modules are taken off the list, and no record is marked as followed
 pub record MarkedReady (flags first dependency next : List ℕ) (n d start : ℕ) (w : Walk) (followed : List ℕ) : Type 0 where
   pub tables : WalkTables flags first dependency next n d

@@ -4,7 +4,7 @@ use mathlib.Core.List.{foldl}
 use mathlib.Core.Path.{_≡_, refl, sym, _∙_}
 use native.Mathlib.Omega.{arith}
 use lib.ListN.{length, take}
-use Rattle.walk.proofs.Visit.{Visited}
+use Rattle.walk.specs.Visited.{Visited}
 use Rattle.walk.specs.Walk.{visited}
 use Rattle.sets.proofs.Starts.{some-visited, one-visited, all-visited}
 use Rattle.sets.proofs.captured.mark_starts.Statement.{statement}

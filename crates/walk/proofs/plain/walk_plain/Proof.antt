@@ -1,12 +1,14 @@
 -- `walk::plain::walk_plain` meets its contract. The loop's invariant is that of a walk with `head` modules taken off its list; the measure is how
 -- many of the n modules can still be taken off.
-use Prim.Native.Nat.{_-_, _≤_}
-use mathlib.Core.Path.{sym, _∙_}
+use Prim.Native.Nat.{_-_, _≤_, _<_}
+use mathlib.Core.Path.{sym, _∙_, subst}
 use native.Mathlib.Omega.{arith}
-use lib.ListN.{length}
+use lib.ListN.{length, getD}
 use Rattle.records.proofs.Table.{Good, good}
 use Rattle.walk.specs.Walk.{Walking}
-use Rattle.walk.proofs.Walking.{walk-begins, walk-turns, taken-in, list-within}
+use Rattle.walk.specs.Chains.{Chain}
+use Rattle.walk.proofs.Passing.{link-tables, chain-begins}
+use Rattle.walk.proofs.Walking.{walk-begins, walk-takes, walk-turns-from, taken-in, list-within, list-room}
 use Rattle.walk.proofs.plain.walk_plain.Statement.{statement}
 use Rattle.walk.proofs.plain.walk_plain.Tie as tie
 
@@ -30,8 +32,7 @@ tables-good s = good _ _ _ _ _ (s .pre .tables .good)
 listed : (l : tie.At-loop Inv-loop μ-loop) → (l .loop .found ≤ length (l .loop .queue)) × (l .loop .found ≤ length (start l .args .flags .now))
 listed l =
     let s = l .loop .inv .state in
-    let few = list-within (start l .args .flags .now) _ _ s in
-    (omega (arith, s .room, few), few)
+    (list-room (start l .args .flags .now) _ _ s, list-within (start l .args .flags .now) _ _ s)
 
 loop-holds : tie.Need-loop-holds Inv-loop μ-loop
 loop-holds c =
@@ -48,42 +49,72 @@ same-length-2 c = c .before .before .loop .inv .queue-length
 returns : tie.Need-returns Inv-loop μ-loop
 returns c = c .before .before .loop .inv
 
-mul-t14 : tie.Need-mul-t14 Inv-loop μ-loop
-mul-t14 c = let l = c .before .before in omega (arith, listed l .0, start l .good)
+add-if2 : tie.Need-add-if2 Inv-loop μ-loop
+add-if2 c = let l = c .before .before in omega (arith, listed l .0, start l .good)
 
-slice-read-t16 : tie.Need-slice-read-t16 Inv-loop μ-loop
-slice-read-t16 c = omega (arith, listed (c .before .before .before) .0)
-
-follow-plain-requires : tie.Need-follow-plain-requires Inv-loop μ-loop
-follow-plain-requires c κs =
+take-four-requires : tie.Need-take-four-requires Inv-loop μ-loop
+take-four-requires c κs =
     let l = c .before .before .before .before .before in
-    let s = start l in
-    let a = s .args in
-    let h = c .before .before .before .before .loop-test .taken in
     record {
-      tables = s .pre .tables;
+      tables = start l .pre .tables;
       state = l .loop .inv .state;
       few = omega (arith, c .before .before .before .if1 .left);
-      module-in = taken-in (a .flags .now) (a .first .now) (a .dependency .now) (a .next .now) _ _ (tables-good s) _ _ _ (l .loop .inv) h;
+      four = c .before .before .if2 .taken;
     }
 
 add-head : tie.Need-add-head Inv-loop μ-loop
-add-head c =
-    let l = c .before .before .before .before .before .before .before .before .before .before in
-    omega (arith, listed l .0, c .before .before .before .before .before .before .before .before .before .loop-test .taken, start l .good)
+add-head c = let l = c .before .before .before .before .before .before .before .before .before .before in omega (arith, c .before .before .before .before .before .before .before .if2 .taken, listed l .0, start l .good)
 
 loop-less : tie.Need-loop-less Inv-loop μ-loop
-loop-less c =
-    let l = c .before .before .before .before .before .before .before .before .before .before in
-    omega (arith, listed l .1, c .before .before .before .before .before .before .before .before .before .loop-test .taken)
+loop-less c = let l = c .before .before .before .before .before .before .before .before .before .before in omega (arith, c .before .before .before .before .before .before .before .if2 .taken, listed l .1)
 
 loop-again : tie.Need-loop-again Inv-loop μ-loop
 loop-again c =
     let l = c .before .before .before .before .before .before .before .before .before .before in
+    let a = start l .args in
+    walk-takes (a .flags .now) (a .first .now) (a .dependency .now) (a .next .now) _ _ _ _ _ (l .loop .inv) 4 (c .before .before .before .before .before .before .before .if2 .taken) (c .before .before .before .before .take-four .ensures .0)
+
+-- the module taken off by itself is one of the n
+taken : (l : tie.In-loop Inv-loop μ-loop) → getD (l .before .loop .queue) (l .before .loop .head) 0 < length (start (l .before) .args .flags .now)
+taken l =
+    let s = start (l .before) in
+    let a = s .args in
+    taken-in (a .flags .now) (a .first .now) (a .dependency .now) (a .next .now) _ _ (tables-good s) _ _ _ (l .before .loop .inv) (l .loop-test .taken)
+
+first-at-requires : tie.Need-first-at-requires Inv-loop μ-loop
+first-at-requires c κs =
+    let l = c .before .before .before .before in
+    record {
+      place-in = omega (arith, listed l .0, c .before .before .before .loop-test .taken);
+      module-in = omega (arith, taken (c .before .before .before), start l .pre .tables .records .firsts);
+    }
+
+follow-plain-requires : tie.Need-follow-plain-requires Inv-loop μ-loop
+follow-plain-requires c κs =
+    let l = c .before .before .before .before .before .before .before in
+    let s = start l in
+    let begins = chain-begins (s .pre .tables) (tables-good s) _ (taken (c .before .before .before .before .before .before)) in
+    record {
+      tables = link-tables (s .pre .tables) (tables-good s);
+      state = l .loop .inv .state;
+      few = omega (arith, c .before .before .before .before .before .if1 .left);
+      chain = subst (Chain _ _) (sym (c .before .before .first-at .ensures)) begins;
+    }
+
+add-head-2 : tie.Need-add-head-2 Inv-loop μ-loop
+add-head-2 c = let l = c .before .before .before .before .before .before .before .before .before .before .before .before in omega (arith, c .before .before .before .before .before .before .before .before .before .before .before .loop-test .taken, listed l .0, start l .good)
+
+loop-less-2 : tie.Need-loop-less-2 Inv-loop μ-loop
+loop-less-2 c = let l = c .before .before .before .before .before .before .before .before .before .before .before .before in omega (arith, c .before .before .before .before .before .before .before .before .before .before .before .loop-test .taken, listed l .1)
+
+loop-again-2 : tie.Need-loop-again-2 Inv-loop μ-loop
+loop-again-2 c =
+    let l = c .before .before .before .before .before .before .before .before .before .before .before .before in
     let s = start l in
     let a = s .args in
-    let h = c .before .before .before .before .before .before .before .before .before .loop-test .taken in
-    walk-turns (a .flags .now) (a .first .now) (a .dependency .now) (a .next .now) _ _ (tables-good s) _ _ _ (l .loop .inv) h (c .before .before .before .before .follow-plain .ensures)
+    let h = c .before .before .before .before .before .before .before .before .before .before .before .loop-test .taken in
+    let e = c .before .before .before .before .before .before .before .first-at .ensures in
+    walk-turns-from (a .flags .now) (a .first .now) (a .dependency .now) (a .next .now) _ _ (tables-good s) _ _ _ (l .loop .inv) h e (c .before .before .before .before .follow-plain .ensures .0)
 
 same-length-3 : tie.Need-same-length-3 Inv-loop μ-loop
 same-length-3 c = let l = c .before in l .loop .inv .state .mark-bytes ∙ sym (start l .pre .state .mark-bytes)
@@ -104,12 +135,16 @@ walk-plain-spec =
     same-length
     same-length-2
     returns
-    mul-t14
-    slice-read-t16
-    follow-plain-requires
+    add-if2
+    take-four-requires
     add-head
     loop-less
     loop-again
+    first-at-requires
+    follow-plain-requires
+    add-head-2
+    loop-less-2
+    loop-again-2
     same-length-3
     same-length-4
     returns-2)
