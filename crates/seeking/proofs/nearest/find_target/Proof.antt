@@ -10,8 +10,8 @@ use Rattle.lists.specs.Least.{least}
 use Rattle.joins.specs.Candidate.{comesFirst, targetAt}
 use Rattle.seeking.specs.Search.{foundOf, Nearest}
 use Rattle.seeking.proofs.Searching.{search-empty, search-one}
-use Rattle.seeking.proofs.target.find_target.Statement.{statement}
-use Rattle.seeking.proofs.target.find_target.Tie as tie
+use Rattle.seeking.proofs.nearest.find_target.Statement.{statement}
+use Rattle.seeking.proofs.nearest.find_target.Tie as tie
 
 abbrev Inv-loop : tie.InvT-loop
 Inv-loop there words sizes bits wanted best₀ i₀ best i = (i ≤ length there) × Nearest there sizes bits wanted i best
