@@ -84,7 +84,7 @@ enum gentropi_answer {
 #define GENTROPI_CUT_STACK_BYTES ((size_t)4096)
 #define GENTROPI_FILTER_STACK_BYTES ((size_t)4096)
 #define GENTROPI_CAPTURE_STACK_BYTES ((size_t)163840)
-#define GENTROPI_MERGE_STACK_BYTES ((size_t)32768)
+#define GENTROPI_MERGE_STACK_BYTES ((size_t)65536)
 #define GENTROPI_CHUNKS_STACK_BYTES ((size_t)524288)
 
 /* Similarity of two ids. Writes `score`. */

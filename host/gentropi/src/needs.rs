@@ -47,7 +47,7 @@ pub const fn stack_bytes(call: Call) -> usize {
     let kilobytes = match call {
         Call::Similarity | Call::Cut | Call::Filter => 4,
         Call::Capture => 160,
-        Call::Merge => 32,
+        Call::Merge => 64,
         Call::Chunks => 512,
     };
     kilobytes * 1_024
