@@ -13,7 +13,7 @@ use Rattle.lists.specs.Range.{range}
 use Rattle.lists.proofs.Map.{getD-map-range}
 use Rattle.lists.proofs.Range.{length-range, getD-range}
 use Rattle.joins.specs.Candidate.{onesApart}
-use Rattle.seeking.specs.Listed.{Ascends, StandsAt, FirstWords, fewer, fewest, without, Removed, Rewritten}
+use Rattle.seeking.specs.Listed.{Ascends, FirstWords, fewer, fewest, without, Removed, Rewritten}
 use Rattle.seeking.proofs.Kept.{by-number}
 use Rattle.seeking.proofs.Removing.{length-without, without-before, without-after}
 

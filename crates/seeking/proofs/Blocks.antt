@@ -40,7 +40,7 @@ pub record LookedThrough (threshold : Float) (sizes : List ℕ) (start i best : 
 -- ---- the order of seekers
 
 module _ (sizes : List ℕ) (exact : Exact sizes) where
-  size-fits : (i : ℕ) → getD sizes i 0 ≤ 2 ^ 53
+  pub size-fits : (i : ℕ) → getD sizes i 0 ≤ 2 ^ 53
   size-fits i = getD-holds (λ n. n ≤ 2 ^ 53) sizes 0 (omega arith) (λ x m. let p = mem-getD 0 m in subst (λ n. n ≤ 2 ^ 53) (p .2) (exact (p .0) (p .1))) i
 
   by-size : (i j : ℕ) → seeksBefore sizes i j ≡ thenBy (lower (λ n. getD sizes n 0)) ltb i j

@@ -14,7 +14,7 @@ use Rattle.lists.proofs.Sorted.{WeakOrder}
 use Rattle.seeking.specs.Search.{looked}
 
 module _ {A : Type 0} (before : A → A → Bool) where
-  pub least-snoc : (l : List A) (x : A) → least before (l ++ (x ∷ [])) ≡ looked before true (least before l) x
+  least-snoc : (l : List A) (x : A) → least before (l ++ (x ∷ [])) ≡ looked before true (least before l) x
   unfolding least looked
   least-snoc [] x = refl
   least-snoc (y ∷ l) x = ap some (foldl-append (earlier before) y l (x ∷ []))

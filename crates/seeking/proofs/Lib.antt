@@ -7,3 +7,4 @@ pub mod Halving
 pub mod Removing
 pub mod Beside
 pub mod Blocks
+pub mod Targets

@@ -4,19 +4,16 @@ use mathlib.Core.Bool.{Bool, true, false, cond, true≢false}
 use mathlib.Core.List.{List}
 use mathlib.Core.Option.{some, none}
 use mathlib.Core.Path.{_≡_, refl, sym, ap, _∙_}
-use native.Mathlib.Nat.{lt-of-lt-of-le}
 use native.Mathlib.Omega.{arith}
 use lib.ListN.{length, getD}
 use Rattle.bitset.specs.Entries.{wordAt, rowOf, differing}
 use Rattle.bitset.specs.declared.entries.BitSet.{BitSet}
 use Rattle.bitset.proofs.Words.{Words, row-reads, row-words}
 use Rattle.bitset.proofs.Differing.{differing-ones}
-use Rattle.joins.specs.Candidate.{comesFirst, targetAt, onesApart}
+use Rattle.joins.specs.Candidate.{comesFirst, onesApart}
 use Rattle.joins.specs.declared.candidate.Candidate.{Candidate}
-use Rattle.seeking.specs.Search.{foundOf, givesWay, looked, Searchable, Nearest}
+use Rattle.seeking.specs.Search.{foundOf, givesWay, looked, Searchable}
 use Rattle.seeking.specs.declared.search.Best.{Best}
-use Rattle.joins.proofs.Nearest.{farther}
-use Rattle.seeking.proofs.Searching.{search-passed}
 
 abbrev newBest : Candidate → Best
 newBest x = record { found = true; candidate = x }
@@ -59,18 +56,9 @@ first-at-most p q = omega (arith, differing-ones p q)
 module _ (there words sizes bits : List ℕ) (s : Searchable there words sizes bits) (small : (i : ℕ) → i < length bits → getD bits i 0 < 2 ^ 64)
     (wanted : BitSet) (is : Words wanted) where
   -- the word beside a number does so too
-  beside-at-most : (k : ℕ) → k < length there → onesApart (wordAt wanted 0) (getD words k 0) ≤ differing wanted (rowOf bits (getD there k 0))
+  pub beside-at-most : (k : ℕ) → k < length there → onesApart (wordAt wanted 0) (getD words k 0) ≤ differing wanted (rowOf bits (getD there k 0))
   beside-at-most k h =
       let j = getD there k 0 in
       let room : 4 * j + 4 ≤ length bits = omega (arith, s .readable .inside k h, s .rows) in
       let first : getD words k 0 ≡ wordAt (rowOf bits j) 0 = s .first .each k h ∙ ap (λ (b : BitSet). wordAt b 0) (row-reads bits j room) in
       rw first (first-at-most is (row-words bits j room small))
-
-  -- numbers that the words beside them rule out are passed over
-  pub nearest-passed : (best : Candidate) (from end : ℕ) → from ≤ end → end ≤ length there
-      → ((k : ℕ) → from ≤ k → k < end → best .distance < onesApart (wordAt wanted 0) (getD words k 0))
-      → Nearest there sizes bits wanted from best → Nearest there sizes bits wanted end best
-  unfolding targetAt
-  nearest-passed best from end p q far so-far =
-      search-passed (targetAt sizes bits wanted) comesFirst there best from end so-far p q
-      (λ k g h. farther best (targetAt sizes bits wanted (getD there k 0)) (lt-of-lt-of-le (far k g h) (beside-at-most k (omega arith))))

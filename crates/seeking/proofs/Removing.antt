@@ -8,7 +8,7 @@ use native.Mathlib.Omega.{arith}
 use borrow.Author.Tests.{eq-eqb, ne-eqb}
 use lib.Dec.{eqb}
 use lib.ListN.{length, getD, set, take, drop, length-set, length-append, length-take, length-drop}
-use lib.Seq.{length-take-le, take-suc, take-at, take-all, take-suc-set, getD-set-other, getD-append-add, getD-drop, getD-take, take-append-le}
+use lib.Seq.{length-take-le, take-suc, take-at, take-all, take-suc-set, getD-set-other, getD-append-add, getD-drop, getD-take}
 use Rattle.lists.specs.Keep.{keep, keepHead}
 use Rattle.lists.proofs.Sort.{more}
 use Rattle.lists.proofs.Distinct.{Distinct}

@@ -1,10 +1,11 @@
 -- The list of the numbers that are still there, and beside it the first word of each one's row.
 use Prim.Native.Nat.{ℕ, zero, suc, _+_, _*_, _-_, _≤_, _<_}
 use mathlib.Core.Bool.{cond}
-use mathlib.Core.List.{List, _++_}
+use mathlib.Core.List.{List, _++_, map}
 use mathlib.Core.Path.{_≡_}
 use lib.Dec.{ltb}
 use lib.ListN.{length, getD, set, take, drop}
+use Rattle.lists.specs.Range.{range}
 use Rattle.joins.specs.Candidate.{onesApart}
 
 -- each number is above those before it
@@ -30,6 +31,11 @@ fewer a b = cond (ltb a b) a b
 unfoldable pub fewest : List ℕ → ℕ → ℕ → ℕ → ℕ
 fewest words wanted from zero = 64
 fewest words wanted from (suc n) = fewer (onesApart wanted (getD words (from + n) 0)) (fewest words wanted from n)
+
+-- the fewest of each block of 16 words, from the first on
+unfoldable pub fewestOfBlocks : List ℕ → ℕ → ℕ → List ℕ
+unfolding fewest range
+fewestOfBlocks words wanted blocks = map (λ j. fewest words wanted (16 * j) 16) (range 0 blocks)
 
 -- ---- changes
 

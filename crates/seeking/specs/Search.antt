@@ -1,11 +1,11 @@
 -- The search for a join: the best so far, and one more that is looked at.
 use Prim.Native.Nat.{ℕ, _*_, _^_, _<_, _≤_}
 use mathlib.Core.Bool.{Bool, true, false, cond}
-use mathlib.Core.List.{List, map}
+use mathlib.Core.List.{List}
 use mathlib.Core.Option.{Option, none, some}
 use mathlib.Core.Path.{_≡_}
-use lib.ListN.{length, getD, take}
-use Rattle.lists.specs.Least.{earlier, least}
+use lib.ListN.{length, getD}
+use Rattle.lists.specs.Least.{earlier}
 use Rattle.bitset.specs.declared.entries.BitSet.{BitSet}
 use Rattle.joins.specs.Candidate.{comesFirst, targetAt}
 use Rattle.joins.specs.declared.candidate.Candidate.{Candidate}
@@ -38,6 +38,18 @@ pub record Searchable (there words sizes bits : List ℕ) : Type 0 where
   pub rows : 4 * length sizes ≤ length bits
   pub first : FirstWords there words bits
 
--- the nearest to a seeker with the entries `wanted`, of the first i numbers of a list
-abbrev pub Nearest : List ℕ → List ℕ → List ℕ → BitSet → ℕ → Candidate → Type 0
-Nearest there sizes bits wanted i best = some best ≡ least comesFirst (map (targetAt sizes bits wanted) (take i there))
+-- number i as a target of a seeker with the entries `wanted` comes before a candidate
+abbrev pub nearerThan : List ℕ → List ℕ → BitSet → ℕ → Candidate → Bool
+nearerThan sizes bits wanted i best = comesFirst (targetAt sizes bits wanted i) best
+
+-- a candidate is one of the numbers of a list
+pub record OfList (there sizes bits : List ℕ) (wanted : BitSet) (best : Candidate) : Type 0 where
+  pub place : ℕ
+  pub inside : place < length there
+  pub is : best ≡ targetAt sizes bits wanted (getD there place 0)
+
+-- r is the best so far, or one of the list that comes before it, once the places from `from` up to `end` were looked at: none of them comes before r
+pub record Nearer (there sizes bits : List ℕ) (wanted : BitSet) (best r : Candidate) (from end : ℕ) : Type 0 where
+  pub of-list : OfList there sizes bits wanted r
+  pub not-after : (i : ℕ) → nearerThan sizes bits wanted i best ≡ false → nearerThan sizes bits wanted i r ≡ false
+  pub none-before : (k : ℕ) → from ≤ k → k < end → nearerThan sizes bits wanted (getD there k 0) r ≡ false

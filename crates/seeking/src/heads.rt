@@ -27,7 +27,7 @@ fn ahead(sizes: &[u64], threshold: f64, best: usize, i: usize) -> usize
 }
 
 // Where a block ends: after 16 numbers, or with the last number of all.
-pub fn block_end(start: usize, count: usize) -> usize
+fn block_end(start: usize, count: usize) -> usize
     requires { ⌜ start < count ⌝ }
     ensures { λ r. ⌜ (start < r) × (r ≤ count) × (r ≤ start + 16) × (r < start + 16 → r ≡ count) ⌝ }
 {

@@ -36,15 +36,15 @@ fn close_numbers(list: &mut [u32], place: usize)
     }
 }
 
-// The same for a list of words.
-fn close_words(list: &mut [u64], place: usize)
-    requires { ⌜ place < length (now list) ⌝ }
-    ensures { λ _. ⌜ take (length (now (list .entry)) - 1) (now (list .exit)) ≡ without place (now (list .entry)) ⌝ }
+// The same for the words beside it.
+fn close_words(words: &mut [u64], place: usize)
+    requires { ⌜ place < length (now words) ⌝ }
+    ensures { λ _. ⌜ take (length (now (words .entry)) - 1) (now (words .exit)) ≡ without place (now (words .entry)) ⌝ }
 {
-    let last = list.len() - 1;
+    let last = words.len() - 1;
     let mut i = place;
     while i < last {
-        list[i] = list[i + 1];
+        words[i] = words[i + 1];
         i = i + 1;
     }
 }

@@ -1,17 +1,19 @@
-// The search for a seeker's target: the list of those still there is looked through for the nearest, block by block. The first words alone rule out
-// most blocks, and most numbers of the others.
-use crate::heads::block_end;
+// The search for a seeker's target: the nearest of those still there. The first words alone rule out most blocks of 16 places, and most places of the
+// others.
 use crate::search::Best;
-use crate::words::rule_out_block;
+use crate::words::fill_fewest;
 use bitset::entries::BitSet;
 use joins::candidate::Candidate;
 ghost use mathlib.Core.Path.{_≡_};
 ghost use mathlib.Core.List.{map};
-ghost use Prim.Native.Nat.{_+_, _≤_, _<_};
+ghost use mathlib.Core.Option.{some};
+ghost use Prim.Native.Nat.{_+_, _*_, _≤_, _<_};
 ghost use lib.ListN.{length};
 ghost use Rattle.lists.specs.Least.{least};
+ghost use Rattle.bitset.specs.Entries.{wordAt};
 ghost use Rattle.joins.specs.Candidate.{comesFirst, targetAt};
-ghost use Rattle.seeking.specs.Search.{foundOf, Searchable, Nearest};
+ghost use Rattle.seeking.specs.Listed.{fewest, fewestOfBlocks};
+ghost use Rattle.seeking.specs.Search.{foundOf, Searchable, OfList, Nearer};
 
 // The nearest so far, once the number at place i was looked at. It is compared only where its first word does not rule it out.
 fn or_place(
@@ -23,9 +25,9 @@ fn or_place(
     best: Candidate,
     wanted: BitSet,
 ) -> Candidate
-    requires { ⌜ Searchable (now there) (now words) (now sizes) (now bits) × (i < length (now there))
-        × Nearest (now there) (now sizes) (now bits) wanted i best ⌝ }
-    ensures { λ r. ⌜ Nearest (now (there .entry)) (now (sizes .entry)) (now (bits .entry)) wanted (i + 1) r ⌝ }
+    requires { ⌜ Searchable (now there) (now words) (now sizes) (now bits) × OfList (now there) (now sizes) (now bits) wanted best
+        × (i < length (now there)) ⌝ }
+    ensures { λ r. ⌜ Nearer (now (there .entry)) (now (sizes .entry)) (now (bits .entry)) wanted best r i (i + 1) ⌝ }
 {
     let entries = wanted.words;
     if best.rules_out(entries[0], words[i]) {
@@ -45,9 +47,9 @@ fn or_places(
     best: Candidate,
     wanted: BitSet,
 ) -> Candidate
-    requires { ⌜ Searchable (now there) (now words) (now sizes) (now bits) × (from ≤ end) × (end ≤ length (now there))
-        × Nearest (now there) (now sizes) (now bits) wanted from best ⌝ }
-    ensures { λ r. ⌜ Nearest (now (there .entry)) (now (sizes .entry)) (now (bits .entry)) wanted end r ⌝ }
+    requires { ⌜ Searchable (now there) (now words) (now sizes) (now bits) × OfList (now there) (now sizes) (now bits) wanted best
+        × (from ≤ end) × (end ≤ length (now there)) ⌝ }
+    ensures { λ r. ⌜ Nearer (now (there .entry)) (now (sizes .entry)) (now (bits .entry)) wanted best r from end ⌝ }
 {
     let mut nearest = best;
     let mut i = from;
@@ -58,10 +60,32 @@ fn or_places(
     nearest
 }
 
-// The same for a block: where it has 16 places, and the first words rule all of them out, none is looked at.
+// The same for block j. Where the fewest entries of its first words are more than the best has, none of its places is looked at.
 fn or_block(
     there: &[u32],
     words: &[u64],
+    sizes: &[u64],
+    bits: &[u64],
+    j: usize,
+    few: u32,
+    best: Candidate,
+    wanted: BitSet,
+) -> Candidate
+    requires { ⌜ Searchable (now there) (now words) (now sizes) (now bits) × OfList (now there) (now sizes) (now bits) wanted best
+        × (16 * j + 16 ≤ length (now there)) × (few ≡ fewest (now words) (wordAt wanted 0) (16 * j) 16) ⌝ }
+    ensures { λ r. ⌜ Nearer (now (there .entry)) (now (sizes .entry)) (now (bits .entry)) wanted best r (16 * j) (16 * j + 16) ⌝ }
+{
+    if best.distance < few {
+        return best;
+    }
+    or_places(there, words, sizes, bits, 16 * j, 16 * j + 16, best, wanted)
+}
+
+// The same for the blocks from `from` up to `end`.
+fn or_blocks(
+    there: &[u32],
+    words: &[u64],
+    few: &[u8],
     sizes: &[u64],
     bits: &[u64],
     from: usize,
@@ -69,17 +93,60 @@ fn or_block(
     best: Candidate,
     wanted: BitSet,
 ) -> Candidate
-    requires { ⌜ Searchable (now there) (now words) (now sizes) (now bits) × (from ≤ end) × (end ≤ length (now there))
-        × Nearest (now there) (now sizes) (now bits) wanted from best ⌝ }
-    ensures { λ r. ⌜ Nearest (now (there .entry)) (now (sizes .entry)) (now (bits .entry)) wanted end r ⌝ }
+    requires { ⌜ Searchable (now there) (now words) (now sizes) (now bits) × OfList (now there) (now sizes) (now bits) wanted best
+        × (from ≤ end) × (end ≤ length (now few)) × (16 * length (now few) ≤ length (now there))
+        × (now few ≡ fewestOfBlocks (now words) (wordAt wanted 0) (length (now few))) ⌝ }
+    ensures { λ r. ⌜ Nearer (now (there .entry)) (now (sizes .entry)) (now (bits .entry)) wanted best r (16 * from) (16 * end) ⌝ }
+{
+    let mut nearest = best;
+    let mut j = from;
+    while j < end {
+        nearest = or_block(there, words, sizes, bits, j, few[j] as u32, nearest, wanted);
+        j = j + 1;
+    }
+    nearest
+}
+
+// The nearest of a list. The block whose first words differ least is looked through first, since what is found there rules out most of the others;
+// then come the blocks after it, those before it, and the places that are left.
+fn nearest_listed(
+    there: &[u32],
+    words: &[u64],
+    few: &mut [u8],
+    sizes: &[u64],
+    bits: &[u64],
+    wanted: BitSet,
+) -> Candidate
+    requires { ⌜ Searchable (now there) (now words) (now sizes) (now bits) × (0 < length (now there)) × (16 * length (now few) ≤ length (now there)) ⌝ }
+    ensures { λ r. ⌜ some r ≡ least comesFirst (map (targetAt (now (sizes .entry)) (now (bits .entry)) wanted) (now (there .entry))) ⌝ }
 {
     let entries = wanted.words;
-    if end - from == 16 {
-        if rule_out_block(words, from, entries[0], best.distance) {
-            return best;
-        }
+    let first = fill_fewest(few, words, entries[0]);
+    let one = Candidate::target_at(sizes, bits, there[16 * first] as usize, wanted);
+    let blocks = few.len();
+    let later = or_blocks(there, words, few, sizes, bits, first, blocks, one, wanted);
+    let earlier = or_blocks(there, words, few, sizes, bits, 0, first, later, wanted);
+    or_places(
+        there,
+        words,
+        sizes,
+        bits,
+        16 * blocks,
+        there.len(),
+        earlier,
+        wanted,
+    )
+}
+
+// How many blocks of a list are looked at as blocks: all, but at most 256.
+fn block_count(count: usize) -> usize
+    ensures { λ r. ⌜ (r ≤ 256) × (16 * r ≤ count) ⌝ }
+{
+    let blocks = count / 16;
+    if 256 < blocks {
+        return 256;
     }
-    or_places(there, words, sizes, bits, from, end, best, wanted)
+    blocks
 }
 
 // The subgroup that the seeker joins: of those listed the nearest.
@@ -96,15 +163,11 @@ pub fn find_target(
     if there.len() == 0 {
         return Best::nothing();
     }
-    let mut best = Candidate::target_at(sizes, bits, there[0] as usize, wanted);
-    let mut i = 1;
-    while i < there.len() {
-        let end = block_end(i, there.len());
-        best = or_block(there, words, sizes, bits, i, end, best, wanted);
-        i = end;
-    }
+    let blocks = block_count(there.len());
+    let mut few = [0u8; 256];
+    let nearest = nearest_listed(there, words, &mut few[..blocks], sizes, bits, wanted);
     Best {
         found: true,
-        candidate: best,
+        candidate: nearest,
     }
 }

@@ -2,11 +2,10 @@
 use crate::list::place_of;
 ghost use mathlib.Core.Path.{_≡_};
 ghost use mathlib.Core.List.{map, List·Memᴰ};
-ghost use Prim.Native.Nat.{_+_, _*_, _≤_, _<_};
-ghost use lib.Dec.{ltb};
+ghost use Prim.Native.Nat.{_+_, _*_, _-_, _≤_, _<_};
 ghost use lib.ListN.{length, getD};
 ghost use Rattle.lists.specs.Range.{range};
-ghost use Rattle.seeking.specs.Listed.{Ascends, fewer, fewest, Rewritten};
+ghost use Rattle.seeking.specs.Listed.{Ascends, fewer, fewest, fewestOfBlocks, Rewritten};
 
 // Writes the first words of all rows.
 pub fn fill_words(words: &mut [u64], bits: &[u64])
@@ -54,13 +53,23 @@ fn fewest_of_block(words: &[u64], from: usize, wanted: u64) -> u32
     least
 }
 
-// Whether the words rule a whole block out: each one tells its set from the wanted one by more than so many entries. A word has 64.
-pub fn rule_out_block(words: &[u64], from: usize, wanted: u64, distance: u32) -> bool
-    requires { ⌜ from + 16 ≤ length (now words) ⌝ }
-    ensures { λ r. ⌜ r ≡ ltb distance (fewest (now (words .entry)) wanted from 16) ⌝ }
+// Writes the fewest of each block, and answers the first block that has the fewest of all.
+pub fn fill_fewest(few: &mut [u8], words: &[u64], wanted: u64) -> usize
+    requires { ⌜ 16 * length (now few) ≤ length (now words) ⌝ }
+    ensures { λ r. ⌜ (now (few .exit) ≡ fewestOfBlocks (now (words .entry)) wanted (length (now (few .entry)))) × (r ≤ length (now (few .entry)) - 1) ⌝ }
 {
-    if 64 <= distance {
-        return false;
+    let mut least = 64;
+    let mut first = 0;
+    let mut j = 0;
+    while j < few.len() {
+        let block = j;
+        let here = fewest_of_block(words, 16 * block, wanted);
+        few[block] = here as u8;
+        j = j + 1;
+        if here < least {
+            least = here;
+            first = block;
+        }
     }
-    distance < fewest_of_block(words, from, wanted)
+    first
 }

@@ -1,5 +1,5 @@
 -- The invariant: the places up to i have taken over what stood one further, the others hold what they had. The measure is the places left.
-use Prim.Native.Nat.{_-_, _≤_}
+use Prim.Native.Nat.{_-_}
 use mathlib.Core.Path.{_≡_, refl}
 use native.Mathlib.Omega.{arith}
 use lib.ListN.{length}

@@ -1,5 +1,5 @@
 -- The invariant: the places up to i have taken over what stood one further, the others hold what they had. The measure is the places left.
-use Prim.Native.Nat.{_-_, _≤_}
+use Prim.Native.Nat.{_-_}
 use mathlib.Core.Path.{_≡_, refl}
 use native.Mathlib.Omega.{arith}
 use lib.ListN.{length}
@@ -8,31 +8,31 @@ use Rattle.seeking.proofs.list.close_words.Statement.{statement}
 use Rattle.seeking.proofs.list.close_words.Tie as tie
 
 abbrev Inv-loop : tie.InvT-loop
-Inv-loop list₀ place last i₀ list i = Closing list₀ place list i × (last ≡ length list₀ - 1)
+Inv-loop words₀ place last i₀ words i = Closing words₀ place words i × (last ≡ length words₀ - 1)
 
 abbrev μ-loop : tie.MeasureT-loop
-μ-loop list₀ place last i₀ list i = last - i
+μ-loop words₀ place last i₀ words i = last - i
 
 sub-last : tie.Need-sub-last Inv-loop μ-loop
 sub-last c = omega arith
 
 loop-holds : tie.Need-loop-holds Inv-loop μ-loop
-loop-holds c = (closing-starts (c .args .list .now) (c .args .place) (c .pre), refl)
+loop-holds c = (closing-starts (c .args .words .now) (c .args .place) (c .pre), refl)
 
-add-list : tie.Need-add-list Inv-loop μ-loop
-add-list c = omega arith
+add-words : tie.Need-add-words Inv-loop μ-loop
+add-words c = omega arith
 
-mul-list : tie.Need-mul-list Inv-loop μ-loop
-mul-list c = omega arith
+mul-words : tie.Need-mul-words Inv-loop μ-loop
+mul-words c = omega arith
 
-slice-read-list : tie.Need-slice-read-list Inv-loop μ-loop
-slice-read-list c = let l = c .before .before .loop in omega (arith, l .inv .0 .same-length, l .inv .1)
+slice-read-words : tie.Need-slice-read-words Inv-loop μ-loop
+slice-read-words c = let l = c .before .before .loop in omega (arith, l .inv .0 .same-length, l .inv .1)
 
-mul-list-2 : tie.Need-mul-list-2 Inv-loop μ-loop
-mul-list-2 c = omega arith
+mul-words-2 : tie.Need-mul-words-2 Inv-loop μ-loop
+mul-words-2 c = omega arith
 
-slice-write-list : tie.Need-slice-write-list Inv-loop μ-loop
-slice-write-list c = let l = c .before .before .loop in omega (arith, l .inv .0 .same-length, l .inv .0 .most)
+slice-write-words : tie.Need-slice-write-words Inv-loop μ-loop
+slice-write-words c = let l = c .before .before .loop in omega (arith, l .inv .0 .same-length, l .inv .0 .most)
 
 add-i : tie.Need-add-i Inv-loop μ-loop
 add-i c = omega arith
@@ -44,7 +44,7 @@ loop-again : tie.Need-loop-again Inv-loop μ-loop
 loop-again c =
     let l = c .before .before .loop in
     let s = c .before .before .before in
-    (closing-on (s .args .list .now) (s .args .place) (s .pre) (l .list) (l .i) (l .inv .0) (omega (arith, l .inv .1)), l .inv .1)
+    (closing-on (s .args .words .now) (s .args .place) (s .pre) (l .words) (l .i) (l .inv .0) (omega (arith, l .inv .1)), l .inv .1)
 
 same-length : tie.Need-same-length Inv-loop μ-loop
 same-length c = c .before .loop .inv .0 .same-length
@@ -53,7 +53,7 @@ returns : tie.Need-returns Inv-loop μ-loop
 returns c =
     let l = c .before .loop in
     let s = c .before .before in
-    closing-ends (s .args .list .now) (s .args .place) (s .pre) (l .list) (l .i) (l .inv .0) (omega (arith, l .inv .1))
+    closing-ends (s .args .words .now) (s .args .place) (s .pre) (l .words) (l .i) (l .inv .0) (omega (arith, l .inv .1))
 
 pub close-words-spec : {M : Type 1} → statement M
 close-words-spec =
@@ -63,11 +63,11 @@ close-words-spec =
     μ-loop
     sub-last
     loop-holds
-    add-list
-    mul-list
-    slice-read-list
-    mul-list-2
-    slice-write-list
+    add-words
+    mul-words
+    slice-read-words
+    mul-words-2
+    slice-write-words
     add-i
     loop-less
     loop-again

@@ -1,8 +1,8 @@
 -- The invariant: the number stands at one of the places from `low` up to `high`. The measure is how many those are.
-use Prim.Native.Nat.{ℕ, _-_, _≤_, _<_}
+use Prim.Native.Nat.{_-_}
 use mathlib.Core.Path.{_≡_, ap, _∙_}
 use native.Mathlib.Omega.{arith}
-use lib.ListN.{length, getD}
+use lib.ListN.{getD}
 use Rattle.lists.proofs.Position.{mem-getD}
 use Rattle.seeking.proofs.Halving.{Between, lower-half, upper-half}
 use Rattle.seeking.proofs.list.place_of.Statement.{statement}

@@ -1,7 +1,6 @@
 -- The place of the number is closed in both lists.
 use Prim.Native.Nat.{_-_}
 use mathlib.Core.Path.{sym, ap, _∙_}
-use native.Mathlib.Omega.{arith}
 use borrow.Author.Needs.{needs}
 use lib.ListN.{take}
 use Rattle.seeking.proofs.list.remove.Statement.{statement}

@@ -1,18 +1,14 @@
 -- A number whose first word rules it out is farther than the best; any other is compared.
-use Prim.Native.Nat.{ℕ, _+_, _^_, _<_}
-use mathlib.Core.Option.{some}
-use mathlib.Core.Path.{_≡_, sym, ap, _∙_, subst}
+use Prim.Native.Nat.{_+_, _<_}
+use mathlib.Core.Path.{_≡_, sym, _∙_, subst}
 use native.Mathlib.Omega.{arith}
-use borrow.Author.Tests.{ltb-true}
 use borrow.Author.Needs.{needs}
-use lib.ListN.{length, getD}
+use borrow.Author.Tests.{ltb-true}
+use lib.ListN.{getD}
 use Rattle.bitset.specs.Entries.{wordAt}
 use Rattle.bitset.proofs.Words.{held}
-use Rattle.joins.specs.Candidate.{comesFirst, targetAt, onesApart}
-use Rattle.seeking.specs.Search.{looked}
-use Rattle.seeking.proofs.Kept.{by-number}
-use Rattle.seeking.proofs.Looking.{nearest-passed}
-use Rattle.seeking.proofs.Searching.{search-more}
+use Rattle.joins.specs.Candidate.{onesApart}
+use Rattle.seeking.proofs.Targets.{nearer-passed, nearer-one}
 use Rattle.seeking.proofs.nearest.or_place.Statement.{statement}
 use Rattle.seeking.proofs.nearest.or_place.Tie as tie
 
@@ -35,10 +31,9 @@ returns c =
     let known = c .before .before .before .before .shared-slice-known4 in
     let far : a .best .distance < onesApart (wordAt (a .wanted) 0) (getD (a .words .now) (a .i) 0) =
     ltb-true _ _ (sym (c .before .rules-out .ensures) ∙ c .if1 .taken) in
-    nearest-passed (a .there .now) (a .words .now) (a .sizes .now) (a .bits .now) (s .pre .0) (λ i h. known .given i .fits) (a .wanted) (search held)
-    (a .best) (a .i) (a .i + 1) (omega arith) (omega arith)
+    nearer-passed (a .there .now) (a .words .now) (a .sizes .now) (a .bits .now) (s .pre .0) (a .wanted) (λ i h. known .given i .fits) (search held)
+    (a .best) (a .i) (a .i + 1) (omega arith) (s .pre .1)
     (λ k g h. let e : a .i ≡ k = omega arith in subst (λ j. a .best .distance < onesApart (wordAt (a .wanted) 0) (getD (a .words .now) j 0)) e far)
-    (s .pre .2)
 
 mul-or-target : tie.Need-mul-or-target
 mul-or-target c = search needs
@@ -59,12 +54,11 @@ or-target-requires c κs =
     record { has-size = h; has-bits = omega (arith, s .pre .0 .rows); exact = r .exact (getD (s .args .there .now) (s .args .i) 0) h }
 
 returns-2 : tie.Need-returns-2
-unfolding looked
 returns-2 c =
     let s = c .before .before .before .before .before .before .before .before .before .before in
     let a = s .args in
-    search-more (targetAt (a .sizes .now) (a .bits .now) (a .wanted)) comesFirst (a .there .now) (a .i) (omega arith)
-    (some (a .best)) (some (c .or-target .result)) (s .pre .2) (ap some (c .or-target .ensures))
+    nearer-one (a .there .now) (a .words .now) (a .sizes .now) (a .bits .now) (s .pre .0) (a .wanted)
+    (a .best) (c .or-target .result) (a .i) (s .pre .2) (s .pre .1) (c .or-target .ensures)
 
 pub or-place-spec : {M : Type 1} → statement M
 or-place-spec =

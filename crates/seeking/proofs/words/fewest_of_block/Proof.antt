@@ -1,6 +1,6 @@
 -- The invariant: the fewest so far is that of the first i words of the block. The measure is the words left.
 use Prim.Native.Nat.{suc, _+_, _-_, _≤_}
-use mathlib.Core.Path.{_≡_, refl, sym, ap, _∙_}
+use mathlib.Core.Path.{_≡_, refl, ap, _∙_}
 use native.Mathlib.Omega.{arith}
 use lib.ListN.{getD}
 use Rattle.joins.specs.Candidate.{onesApart}
