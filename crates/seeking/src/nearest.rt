@@ -138,10 +138,14 @@ fn nearest_listed(
     )
 }
 
-// How many blocks of a list are looked at as blocks: all, but at most 256.
-fn block_count(count: usize) -> usize
+// How many blocks of a list are looked at as blocks: all, but at most 256. None where the list's first number is as far as a word has entries: then
+// first words rule out too little.
+fn block_count(count: usize, distance: u32) -> usize
     ensures { λ r. ⌜ (r ≤ 256) × (16 * r ≤ count) ⌝ }
 {
+    if 64 <= distance {
+        return 0;
+    }
     let blocks = count / 16;
     if 256 < blocks {
         return 256;
@@ -163,7 +167,8 @@ pub fn find_target(
     if there.len() == 0 {
         return Best::nothing();
     }
-    let blocks = block_count(there.len());
+    let one = Candidate::target_at(sizes, bits, there[0] as usize, wanted);
+    let blocks = block_count(there.len(), one.distance);
     let mut few = [0u8; 256];
     let nearest = nearest_listed(there, words, &mut few[..blocks], sizes, bits, wanted);
     Best {
