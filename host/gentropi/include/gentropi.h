@@ -85,7 +85,7 @@ enum gentropi_answer {
 #define GENTROPI_FILTER_STACK_BYTES ((size_t)4096)
 #define GENTROPI_CAPTURE_STACK_BYTES ((size_t)163840)
 #define GENTROPI_MERGE_STACK_BYTES ((size_t)65536)
-#define GENTROPI_CHUNKS_STACK_BYTES ((size_t)524288)
+#define GENTROPI_CHUNKS_STACK_BYTES ((size_t)589824)
 
 /* Similarity of two ids. Writes `score`. */
 uint32_t gentropi_similarity(

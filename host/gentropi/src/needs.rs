@@ -48,7 +48,7 @@ pub const fn stack_bytes(call: Call) -> usize {
         Call::Similarity | Call::Cut | Call::Filter => 4,
         Call::Capture => 160,
         Call::Merge => 64,
-        Call::Chunks => 512,
+        Call::Chunks => 576,
     };
     kilobytes * 1_024
 }
