@@ -1,6 +1,5 @@
 // Dependency records: (module, next), numbered from 1, and refusal 7 over them.
 ghost use mathlib.Core.Path.{_≡_};
-ghost use mathlib.Core.Bool.{false};
 ghost use Prim.Native.Nat.{_+_, _≤_};
 ghost use lib.ListN.{length};
 ghost use Rattle.records.specs.Chain.{chainFrom};
