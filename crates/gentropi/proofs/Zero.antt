@@ -16,6 +16,9 @@ use Rattle.merge.specs.Call as merge
 use Rattle.grouping.specs.Given as grouping
 use Rattle.grouping.specs.Conditions.{inputTests, stateTests}
 use Rattle.grouping.specs.Call.{chunksTests}
+use Rattle.chunk_names.specs.Given as naming
+use Rattle.chunk_names.specs.Conditions.{tableTests, chunkTests}
+use Rattle.chunk_names.specs.Call.{nameTests}
 
 pub similarity-none-zero : (lhs rhs : List ℕ) → numbered (similarityTests lhs rhs) ≡ true
 unfolding similarityTests
@@ -40,3 +43,7 @@ merge-none-zero g a = refl
 pub chunks-none-zero : (need : grouping.Given → ℕ) (b : grouping.Given) (a : grouping.Areas) → numbered (chunksTests need b a) ≡ true
 unfolding chunksTests inputTests stateTests
 chunks-none-zero need b a = refl
+
+pub name-none-zero : (g : naming.Given) (room : ℕ) → numbered (nameTests g room) ≡ true
+unfolding nameTests tableTests chunkTests
+name-none-zero g room = refl

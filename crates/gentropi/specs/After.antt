@@ -1,8 +1,10 @@
 -- The places that an exported function writes, before and after a call: a refusal leaves them as they were.
 use Prim.Native.Nat.{ℕ}
 use mathlib.Core.Bool.{Bool, true, false}
+use mathlib.Core.List.{List}
 use mathlib.Core.Path.{_≡_}
 use lib.Ieee.{Float}
+use lib.ListN.{length}
 use Rattle.refusal.specs.Outcome.{Outcome, refused, accepted, numberOf, valueOr}
 use Rattle.refusal.specs.Call.{Call}
 use Rattle.limit.specs.declared.Limit.{Limit}
@@ -18,6 +20,8 @@ use Rattle.grouping.specs.Given as grouping
 use Rattle.grouping.specs.Conditions.{scratchNeed}
 use Rattle.grouping.specs.Call.{chunksOutcome}
 use Rattle.grouping.specs.Written as chunks
+use Rattle.chunk_names.specs.Given as naming
+use Rattle.chunk_names.specs.Call as chunk-names
 
 -- the places of a cut: whether there is one, its index and the sizes of its sides
 pub record CutPlaces : Type 0 where
@@ -72,3 +76,8 @@ MergeExport g answer before after = Call numberOf (merge.mergeOutcome g before) 
 pub record ChunksExport (b : grouping.Given) (answer : ℕ) (count count′ : ℕ) (before after : grouping.Areas) : Type 0 where
   pub call : Call numberOf (chunksOutcome scratchNeed b before) answer before after (λ _. after ≡ chunks.written 0 b before)
   pub place : count′ ≡ valueOr (chunksOutcome scratchNeed b before) count
+
+-- an exported name call: its answer with the name area after it, and the place of the length
+pub record NameExport (g : naming.Given) (answer : ℕ) (held held′ : ℕ) (before after : List ℕ) : Type 0 where
+  pub call : Call numberOf (chunk-names.nameOutcome g (length before)) answer before after (λ _. after ≡ chunk-names.written g before)
+  pub place : held′ ≡ valueOr (chunk-names.nameOutcome g (length before)) held

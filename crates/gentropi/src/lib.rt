@@ -3,5 +3,6 @@ pub mod captures;
 pub mod cuts;
 pub mod filters;
 pub mod merges;
+pub mod names;
 pub mod similar;
 pub mod splits;

@@ -3,11 +3,12 @@
 use Prim.Native.Nat.{ℕ, _<_}
 use mathlib.Core.Bool.{Bool, true, false, _&&_}
 use mathlib.Core.List.{List, [], _∷_, _++_}
-use mathlib.Core.Path.{_≡_, refl, sym, ap}
+use mathlib.Core.Path.{_≡_, refl, sym, ap, _∙_}
 use native.Mathlib.Omega.{arith}
 use borrow.Author.Tests.{ltb-true}
 use lib.Dec.{ltb}
 use Rattle.refusal.specs.Outcome.{Outcome, refused, accepted, Test, test, outcome, numberOf, firstNumber}
+use Rattle.refusal.proofs.Calls.{never-both}
 use Rattle.refusal.proofs.Lowest.{both}
 
 -- ---- one test after another
@@ -62,6 +63,15 @@ module _ {A B : Type 0} (a : A) (c : B) where
   goes-on v [] us e = refl
   goes-on v (test n true ∷ ts) us e = let z : _≡_ {A = ℕ} 0 1 = cc in absurd (omega arith)
   goes-on v (test n false ∷ ts) us e = goes-on v ts us e
+
+-- an accepted call has no number in its first conditions, and is accepted by the rest
+pub part-passed : {A : Type 0} (a v : A) (ts us : List Test) → outcome (ts ++ us) a ≡ accepted v → (0 ≡ firstNumber ts) × (outcome us a ≡ accepted v)
+unfolding firstNumber
+part-passed a v ts us e = go (outcome {A = Unit {0}} ts tt) refl
+  where
+    go : (o : Outcome Unit) → outcome ts tt ≡ o → (0 ≡ numberOf (outcome {A = Unit {0}} ts tt)) × (outcome us a ≡ accepted v)
+    go (refused k) q = absurd (never-both (still-refused tt a k ts us q) e)
+    go (accepted tt) q = (sym (ap numberOf q), sym (goes-on tt a tt ts us q) ∙ e)
 
 -- ---- what a number says
 

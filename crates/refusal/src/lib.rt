@@ -36,3 +36,9 @@ pub const CHUNK_COUNT: u32 = 11;
 pub const AREA: u32 = 12;
 // The lent scratch is too short.
 pub const SCRATCH: u32 = 13;
+// A name isn't UTF-8.
+pub const UTF8: u32 = 14;
+// The group names don't strictly ascend.
+pub const NAME_ORDER: u32 = 15;
+// The hash isn't eight bytes below 128.
+pub const HASH: u32 = 16;

@@ -8,6 +8,7 @@ mod cut;
 mod filter;
 mod fitted_groups;
 mod merge;
+mod name;
 mod similarity;
 
 /// What came of a question.
@@ -39,6 +40,7 @@ pub fn ask(question: &Question) -> Asked {
         Question::Capture(capture) => capture::ask(capture),
         Question::Filter(filter) => filter::ask(filter),
         Question::Merge(merge) => merge::ask(merge),
+        Question::Name(name) => name::ask(name),
         Question::Chunks(chunks) => chunks::ask_build(chunks).asked,
     }
 }

@@ -1,6 +1,8 @@
 //! A build that a person wrote: asks the library, and shows the list.
 
 mod as_calls;
+mod chunk_names;
+mod fnv;
 mod list;
 mod options_in_force;
 mod page;
@@ -13,8 +15,10 @@ pub use as_calls::as_calls;
 pub use list::list;
 pub use page::page;
 pub use picture::picture;
-pub use refused::refused;
+pub use refused::{Refused, refused};
 pub use shown::{Shown, ShownChunk, ShownModule};
+
+use std::ops::Deref;
 
 use reading::{chunks::chunk_list_told, story::Story};
 use text::{
@@ -23,6 +27,7 @@ use text::{
 };
 
 use crate::ask_build;
+use chunk_names::ChunkNames;
 
 /// A tree with its numbers.
 #[derive(Debug, Clone)]
@@ -35,11 +40,28 @@ pub struct TreeBuild {
     pub numbered: Numbered,
 }
 
+/// A chunk list, and what its chunks are called.
+#[derive(Debug, Clone, PartialEq)]
+pub struct NamedList {
+    /// The list.
+    pub list: ChunkList,
+    /// The library's name for each chunk.
+    pub names: Vec<String>,
+}
+
+impl Deref for NamedList {
+    type Target = ChunkList;
+
+    fn deref(&self) -> &ChunkList {
+        &self.list
+    }
+}
+
 /// What the library answered to a tree.
 #[derive(Debug, Clone)]
 pub struct TreeAnswer {
-    /// The chunk list, or the number of the refusal.
-    pub outcome: Result<ChunkList, u32>,
+    /// The chunk list, or what was refused.
+    pub outcome: Result<NamedList, Refused>,
     /// What a lent area shows to be wrong; empty unless the library breaks its contract.
     pub warnings: Vec<String>,
 }
@@ -67,14 +89,29 @@ impl TreeBuild {
         Ok(Self { title, tree, numbered })
     }
 
-    /// Puts the build to the library, with areas lent that show where it wrote.
+    /// Puts the build to the library, then each chunk for its name, with areas lent that show where
+    /// it wrote.
     pub fn ask(&self) -> TreeAnswer {
         let asked = ask_build(&self.call()).asked;
-        let outcome = asked.outcome.map(|answer| match answer {
+        let mut warnings = asked.warnings;
+        let list = asked.outcome.map(|answer| match answer {
             Answer::Chunks(list) => list,
             _ => ChunkList { chunks: Vec::new(), chunk_of: Vec::new() },
         });
-        TreeAnswer { outcome, warnings: asked.warnings }
+        let outcome = list.map_err(Refused::Build).and_then(|list| self.named(list, &mut warnings));
+        TreeAnswer { outcome, warnings }
+    }
+
+    /// The list with the library's name for each chunk, or the first chunk whose name is refused.
+    fn named(&self, list: ChunkList, warnings: &mut Vec<String>) -> Result<NamedList, Refused> {
+        let (chunk_names, mut names) = (ChunkNames::new(self), Vec::new());
+        for chunk in &list.chunks {
+            let asked = chunk_names.ask(chunk);
+            warnings.extend(asked.warnings);
+            let refused = |number| Refused::Name { chunk: chunk.chunk, number };
+            names.push(asked.outcome.map_err(refused)?);
+        }
+        Ok(NamedList { list, names })
     }
 
     /// The host's own reading of a build that the library accepted with this list.

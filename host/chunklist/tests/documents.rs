@@ -44,8 +44,13 @@ fn the_first_example_of_the_tree_form() {
 
 #[test]
 fn the_full_example_of_the_tree_form() {
-    let tree = block(&document("docs/TREE-FORM.md"), "## A full example");
+    let document = document("docs/TREE-FORM.md");
+    let tree = block(&document, "## A full example");
     let Ran { answers, messages, status } = run(&["--tree"], tree.as_bytes());
     assert_eq!((messages.as_str(), status), ("", Some(0)));
     assert!(answers.starts_with("shop: 4 chunks, 5 modules, "), "{answers}");
+    let named = answers.lines().filter_map(|line| line.strip_prefix("chunk ")?.split_once(": "));
+    let names: Vec<&str> = named.filter_map(|(_, rest)| rest.split(", ").next()).collect();
+    let told = document.lines().find(|line| line.starts_with("Its chunks are ")).expect("names");
+    assert_eq!(told.split('`').skip(1).step_by(2).collect::<Vec<_>>(), names);
 }

@@ -4,20 +4,19 @@ mod common;
 
 use std::{fs, path::PathBuf};
 
-use chunklist::tree::{HostReading, Shown, ShownChunk, TreeBuild, page};
+use chunklist::tree::{HostReading, NamedList, Shown, ShownChunk, TreeBuild, page};
 use common::{
     Ran,
     browser::{browser, folder, opened},
     run,
     samples::{content, path},
 };
-use text::ChunkList;
 
 /// The window that the sample is shown against.
 const WINDOW: u64 = 65_536;
 
 /// The sample with its list.
-fn sample() -> (TreeBuild, ChunkList) {
+fn sample() -> (TreeBuild, NamedList) {
     let build = TreeBuild::read(&content("widgets.tree"), "widgets", None).expect("a tree");
     let list = build.ask().outcome.expect("the library accepts it");
     (build, list)
@@ -96,6 +95,8 @@ fn filters_stand_in_the_address() {
     assert_eq!(at("group=3"), by_list(&shown, |chunk| chunk.group == 3));
     assert_eq!(at("entry=1"), by_list(&shown, |chunk| chunk.entries.contains(&1)));
     assert_eq!(at("name=theme-dark"), by_list(&shown, |chunk| chunk.name == "theme-dark"));
+    let widgets = by_list(&shown, |chunk| chunk.name.starts_with("widgets~"));
+    assert_eq!((at("name=widgets"), widgets[0]), (widgets, 4));
     assert_eq!(at("above=1"), by_list(&shown, |chunk| chunk.size > WINDOW));
     let both = by_list(&shown, |chunk| chunk.group == 0 && chunk.entries.contains(&0));
     assert_eq!(at("group=0&entry=0"), both);
@@ -168,6 +169,20 @@ fn what_was_dropped_cut_or_left_is_told_as_not_proved() {
 }
 
 #[test]
+fn each_chunk_has_its_name_and_filters_go_by_the_groups() {
+    let (build, list) = sample();
+    let html = page(&build, &list, &build.read_by_host(&list), None);
+    for (chunk, name) in list.chunks.iter().zip(&list.names) {
+        let heading = format!("<h2>{} <span class=\"name\">{name}</span>", chunk.chunk);
+        assert!(html.contains(&heading), "{heading}");
+    }
+    assert_eq!(html.matches(" data-name=\"widgets\" ").count(), 4);
+    assert!(html.contains("<option value=\"widgets\">widgets</option>"));
+    assert_eq!(html.matches("the name is <code>widgets</code>, then its entries;").count(), 4);
+    assert!(html.contains("the name is <code>theme-{2}</code>.</p>"));
+}
+
+#[test]
 fn a_reading_that_differs_is_said_loudly() {
     let (build, list) = sample();
     let reading = HostReading { agrees: false, ..build.read_by_host(&list) };
@@ -178,10 +193,10 @@ fn a_reading_that_differs_is_said_loudly() {
         )
     );
     let mut other = list.clone();
-    other.chunks[0].name += 1;
+    other.list.chunks[0].name += 1;
     assert!(!build.read_by_host(&other).agrees);
     // Even a list that the reading knows nothing of can be shown.
-    other.chunks[0].chunk = 99;
+    other.list.chunks[0].chunk = 99;
     assert!(page(&build, &other, &build.read_by_host(&other), None).contains("no such chunk"));
 }
 

@@ -86,7 +86,7 @@ fn listed(text: &str, seed: Option<u32>) -> String {
         TreeBuild::read(text, "random", seed).unwrap_or_else(|error| panic!("{error}\n{text}"));
     let answer = build.ask();
     assert_eq!(answer.warnings, Vec::<String>::new());
-    let chunks = answer.outcome.unwrap_or_else(|number| panic!("refused {number}\n{text}"));
+    let chunks = answer.outcome.unwrap_or_else(|refused| panic!("{refused:?}\n{text}"));
     assert!(build.read_by_host(&chunks).agrees, "{text}");
     list(&Shown::new(&build, &chunks))
 }

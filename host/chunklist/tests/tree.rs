@@ -53,8 +53,12 @@ impl Comments<'_> {
             let bits = |entry: &usize| chunk.bits[entry / 64] >> (entry % 64) & 1 == 1;
             let entries = (0..build.entries as usize).filter(bits);
             let entries: Vec<&str> = entries.map(|entry| self.name("entry", entry)).collect();
-            let (name, group) = (chunk.name as usize, chunk.group as usize);
-            let (name, group) = (self.name("name", name), self.name("group", group));
+            let (bare, group) = (chunk.name as usize, chunk.group as usize);
+            let aware = build.groups[group].entries_aware == Some(true);
+            // None of the sample's names is long enough to be cut.
+            let added = if aware { entries.as_slice() } else { &[] };
+            let name = [&[self.name("name", bare)], added].concat().join("~");
+            let group = self.name("group", group);
             let (number, size, entries) = (chunk.chunk, chunk.size, entries.join(" "));
             writeln!(
                 text,
@@ -160,7 +164,7 @@ fn refusals_are_the_librarys_with_what_they_mean_and_where() {
         message(&format!("module a 1\nmodule {} 2\n", "x".repeat(1_025))),
         refused(
             3,
-            "an id offset falls or passes the end, or an id has more than 1,024 bytes\n  \
+            "an offset falls or passes the end, or an id has more than 1,024 bytes\n  \
              line 2: an id of 1025 bytes"
         )
     );

@@ -54,7 +54,8 @@ struct Pair {
 
 /// Writes the corpus, or compares it with the files that are there; true if they are the same.
 pub fn write(folder: &Path, check: bool) -> Result<bool, String> {
-    let leaves = [Call::Similarity, Call::Cut, Call::Capture, Call::Filter, Call::Merge];
+    let leaves =
+        [Call::Similarity, Call::Cut, Call::Capture, Call::Filter, Call::Merge, Call::Name];
     let (mut builds, mut refusals) = (recorded(&[Call::Chunks]), refusals());
     reading::complete(&mut builds, &mut refusals);
     let mut files = Vec::new();

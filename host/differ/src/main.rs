@@ -20,14 +20,16 @@ use std::{env, fs, io::Read, path::PathBuf, process::ExitCode, thread};
 use judge::{Judge, Walk};
 use run::{Plan, Run, written};
 use side::{Library, Reference, Response, Side};
+use text::Call;
 
 const HELP: &str = "\
-differ: the crate's own text, document 01 and the proved library, run on the same inputs
+differ: the crate's own text, the papers read plainly and the proved library, run on the same inputs
 
   differ all [--cases N] [--builds N] [--seed S]   runs everything; N random cases for each leaf
              [--largest N] [--largest-p P]         (200000), N whole builds (as many) and N of 4,096
-                                                   modules and 65,535 records (100), with P at most
-                                                   so large (262144, which takes 4.3 GB)
+             [--call CALL]                         modules and 65,535 records (100), with P at most
+                                                   so large (262144, which takes 4.3 GB); of one
+                                                   CALL alone by its word in the text form
   differ faults [--cases N] [--seed S]             runs every deliberate fault (N: 4000)
   differ reading-faults [--cases N] [FOLDER]       runs every deliberate fault of the reading on the
                                                    recorded builds and refusals, and on N random
@@ -87,8 +89,10 @@ fn command(arguments: &[String]) -> Result<bool, String> {
 
 fn all(mut options: Options) -> Result<bool, String> {
     let cases = options.number("--cases")?.unwrap_or(200_000);
+    let only = options.value("--call")?.map(|word| call(&word)).transpose()?;
     let plan = Plan {
         seed: options.number("--seed")?.unwrap_or(1),
+        only,
         cases,
         builds: options.number("--builds")?.unwrap_or(cases),
         largest: options.number("--largest")?.unwrap_or(100),
@@ -131,6 +135,12 @@ fn answer(mut options: Options) -> Result<bool, String> {
     let walk = walk(&options.value("--walk")?.unwrap_or("document".into()))?;
     options.done(1)?;
     answer_file(&side, walk, options.rest.first())
+}
+
+/// A call by its word.
+fn call(word: &str) -> Result<Call, String> {
+    let named = Call::ALL.into_iter().find(|call| call.word() == word);
+    named.ok_or_else(|| format!("unknown call `{word}`"))
 }
 
 /// An order of walking by its word.

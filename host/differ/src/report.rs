@@ -7,7 +7,7 @@ use text::Call;
 use crate::{
     fault_runs::{Count, Verdict},
     reading_faults::Fared,
-    run::{LargeTally, LibraryTally, PairTally, Run, Tally},
+    run::{LargeTally, LibraryTally, NameTally, PairTally, Run, Tally},
     slowest::{self, Slow, Took},
     stack::{Deepest, Depths},
 };
@@ -29,6 +29,7 @@ pub fn run(run: &Run) -> bool {
         print_library(&tally.library);
         print_large(&tally.large);
         print_pairs(&tally.pairs);
+        print_names(&tally.names);
         for (kind, count) in run.counts.of(*call) {
             println!("  {count:>9}  {kind}");
         }
@@ -39,6 +40,7 @@ pub fn run(run: &Run) -> bool {
         println!("no case of {}: {kind}", call.word());
     }
     println!("{} with ids that aren't UTF-8, which the crate can't be asked", run.not_text);
+    println!("{} with an entry whose empty name the crate would show", run.empty_names);
     print_table(&run.tallies);
     println!("{} disagreements", run.disagreements);
     run.disagreements == 0 && missing.is_empty()
@@ -71,7 +73,7 @@ fn with_commas(count: u64) -> String {
 }
 
 /// How many damaged questions each number refused.
-fn print_refusals(refused: &[u64; 14]) {
+fn print_refusals(refused: &[u64; 17]) {
     let counts = refused.iter().enumerate().filter(|(_, count)| **count > 0);
     let counts: Vec<String> = counts.map(|(number, count)| format!("{number}: {count}")).collect();
     println!("  refused by number: {}", counts.join(", "));
@@ -100,6 +102,14 @@ fn print_pairs(tally: &PairTally) {
     if *pairs > 0 {
         print!("  renumbered: {pairs} pairs, {chunks} with a new chunk, {chains} with several ");
         println!("modules in one, {records} with another count of records; {differ} differ");
+    }
+}
+
+/// Names of new chunks.
+fn print_names(tally: &NameTally) {
+    let NameTally { chunks, aware, cut } = tally;
+    if *chunks > 0 {
+        println!("  named: {chunks} chunks, {aware} of entries-aware groups, {cut} names cut");
     }
 }
 

@@ -6,8 +6,10 @@ use judge::{Callbacks, Judge, Outside, Walk};
 use text::{Answer, Call, Case, Chunks, Question, Reply, tables};
 
 mod largest;
+mod names;
 mod pairs;
 
+pub use names::NameTally;
 pub use pairs::PairTally;
 
 use crate::{
@@ -26,6 +28,8 @@ const SHOWN: usize = 5;
 #[derive(Debug, Clone, Copy)]
 pub struct Plan {
     pub seed: u64,
+    /// The one call to run, or all.
+    pub only: Option<Call>,
     /// Random questions for each leaf.
     pub cases: u64,
     /// Random whole builds, each with a second one that is alike but for load numbers.
@@ -44,11 +48,12 @@ pub struct Tally {
     pub random: u64,
     pub largest: u64,
     /// Damaged questions, by the number that refuses them.
-    pub refused: [u64; 14],
+    pub refused: [u64; 17],
     pub library: LibraryTally,
     pub seconds: Duration,
     pub large: LargeTally,
     pub pairs: PairTally,
+    pub names: NameTally,
 }
 
 /// What was run of random builds of 4,096 modules and 65,535 records.
@@ -84,11 +89,15 @@ pub struct Run {
     asked: u64,
     /// Of these, those with ids that aren't UTF-8, which the crate can't be asked.
     pub not_text: u64,
+    /// Those with an entry whose empty name the crate would show.
+    pub empty_names: u64,
     pub disagreements: u64,
     /// What was put to the library of the present call.
     library: LibraryTally,
     /// The pairs of builds of the present call.
     pairs: PairTally,
+    /// The names of chunks of the present call's builds.
+    names: NameTally,
 }
 
 impl Run {
@@ -101,16 +110,19 @@ impl Run {
             walks: [0; 2],
             asked: 0,
             not_text: 0,
+            empty_names: 0,
             disagreements: 0,
             library: LibraryTally::default(),
             pairs: PairTally::default(),
+            names: NameTally::default(),
         }
     }
 
     /// Runs everything that a plan says.
     pub fn all(plan: Plan) -> Self {
         let mut run = Self::new(plan);
-        for call in Call::ALL {
+        for call in Call::ALL.into_iter().filter(|call| plan.only.is_none_or(|only| only == *call))
+        {
             let tally = run.call(call);
             run.tallies.push((call, tally));
         }
@@ -145,6 +157,7 @@ impl Run {
         }
         tally.library = std::mem::take(&mut self.library);
         tally.pairs = std::mem::take(&mut self.pairs);
+        tally.names = std::mem::take(&mut self.names);
         tally.seconds = begin.elapsed();
         tally
     }
@@ -181,10 +194,10 @@ impl Run {
         let walk = if question.call() == Call::Chunks { Walk::Document } else { self.walk() };
         let judge = Judge { callbacks, walk, ..Judge::default() };
         let response = judge.respond(question);
-        if response == Response::Outside(Outside::IdIsNoText) {
-            self.not_text += 1;
-        } else {
-            self.expect(Reference.name(), &expected, judge.name(), &response, question);
+        match response {
+            Response::Outside(Outside::IdIsNoText) => self.not_text += 1,
+            Response::Outside(Outside::EmptyEntryName) => self.empty_names += 1,
+            _ => self.expect(Reference.name(), &expected, judge.name(), &response, question),
         }
         let response = self.check_library(question, &expected);
         if let Response::Answered(answer) = &expected {
@@ -192,6 +205,9 @@ impl Run {
         }
         if let Question::Chunks(chunks) = question {
             self.check_walk(chunks, question);
+            if let Response::Answered(Answer::Chunks(list)) = &expected {
+                self.check_names(chunks, list);
+            }
         }
         response
     }

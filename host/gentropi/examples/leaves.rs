@@ -1,8 +1,8 @@
-//! The five calls on small inputs: `cargo run -p gentropi --example leaves`.
+//! The leaf calls on small inputs: `cargo run -p gentropi --example leaves`.
 
 use gentropi::{
-    Chains, FilteredModule, IdBuf, Refusal, StaticFilter, Subgroups, capture_to_vec, cut, filter,
-    flag, merge_to_vec, similarity,
+    Chains, ChunkToName, FilteredModule, IdBuf, Refusal, StaticFilter, Subgroups, capture_to_vec,
+    chunk_name_to_vec, cut, filter, flag, limits, merge_to_vec, similarity,
 };
 
 fn main() -> Result<(), Refusal> {
@@ -29,8 +29,23 @@ fn main() -> Result<(), Refusal> {
         println!("subgroup {number} ended in {} with {} bytes", merged.number, merged.size);
     }
 
+    println!("a chunk's name: {}", String::from_utf8_lossy(&name()?));
+
     // What doesn't fit is refused: two sizes for three ids.
     let refusal = cut(ids.as_ids(), &[10, 10], 0.0, 20.0).expect_err("the lengths differ");
     println!("{refusal}");
     Ok(())
+}
+
+/// The name of a chunk that has entries 0 and 2. No hash of it is needed, as it isn't cut.
+fn name() -> Result<Vec<u8>, Refusal> {
+    let (groups, entries) = (IdBuf::from_iter(["ui"]), IdBuf::from_iter(["shop", "docs", "guide"]));
+    chunk_name_to_vec(&ChunkToName {
+        group_names: groups.as_ids(),
+        entry_names: entries.as_ids(),
+        number: 0,
+        entries_aware: true,
+        bits: [0b101, 0, 0, 0],
+        hash: &[0; limits::HASH_BYTES],
+    })
 }

@@ -31,6 +31,10 @@ extern "C" {
 #define GENTROPI_ID_BYTES ((size_t)1024)
 #define GENTROPI_TOTAL_SIZE (UINT64_C(1) << 53)
 
+/* Bytes of an entries-aware chunk's name at most, and of the hash at the end of one that is cut. */
+#define GENTROPI_CHUNK_NAME_BYTES ((size_t)100)
+#define GENTROPI_HASH_BYTES ((size_t)8)
+
 /* Entry bits are four words for each module, subgroup or chunk; entry 0 is the lowest bit of the first word. */
 #define GENTROPI_BITS_WORDS ((size_t)4)
 
@@ -39,17 +43,20 @@ enum gentropi_refusal {
     GENTROPI_ACCEPTED = 0,
     GENTROPI_COUNT = 1,       /* a count is above its limit */
     GENTROPI_LENGTH = 2,      /* a table's length is not the one that the counts imply */
-    GENTROPI_ID = 3,          /* an id offset falls or passes the end, or an id is too long */
+    GENTROPI_ID = 3,          /* an offset of ids or names falls or passes the end, or an id is too long */
     GENTROPI_SAME_ID = 4,     /* two normal included modules have the same stable id */
     GENTROPI_SAME_ORDER = 5,  /* two normal included modules have the same execution order */
     GENTROPI_TOTAL = 6,       /* the sizes add to more than 2^53 */
     GENTROPI_RECORD = 7,      /* a record or the module it names is out of range, or a chain doesn't end */
     GENTROPI_NAN = 8,         /* a limit or a threshold is NaN */
     GENTROPI_BIT = 9,         /* a flag byte is above 7, or an entry bit is not below the count of entries */
-    GENTROPI_NUMBER = 10,     /* an answer is above the names, or the start module is out of range */
+    GENTROPI_NUMBER = 10,     /* an answer or a number is above the names, or the start module is out of range */
     GENTROPI_CHUNK_COUNT = 11, /* the chunk count on entry is above 65,535 */
     GENTROPI_AREA = 12,       /* an output area is shorter than the call needs */
-    GENTROPI_SCRATCH = 13     /* the scratch is shorter than the call needs */
+    GENTROPI_SCRATCH = 13,    /* the scratch is shorter than the call needs */
+    GENTROPI_UTF8 = 14,       /* a name isn't UTF-8 */
+    GENTROPI_NAME_ORDER = 15, /* the names of groups don't strictly ascend in byte order */
+    GENTROPI_HASH = 16        /* the hash isn't eight bytes below 128 */
 };
 
 /* The flag byte of a module sums these; it is eligible when it is normal and included and not assigned. */
@@ -86,6 +93,7 @@ enum gentropi_answer {
 #define GENTROPI_CAPTURE_STACK_BYTES ((size_t)163840)
 #define GENTROPI_MERGE_STACK_BYTES ((size_t)65536)
 #define GENTROPI_CHUNKS_STACK_BYTES ((size_t)589824)
+#define GENTROPI_NAME_STACK_BYTES ((size_t)4096)
 
 /* Similarity of two ids. Writes `score`. */
 uint32_t gentropi_similarity(
@@ -197,6 +205,28 @@ uint32_t gentropi_chunks(
     uint32_t *scratch, size_t scratch_len,
     size_t *count);
 
+/* What a chunk is called. Group name i is group_names[group_offsets[i]..group_offsets[i + 1]], for k names that strictly ascend in byte
+ * order; entry names likewise, for e entries. `number` is the chunk's name, `word0` to `word3` are its entry bits, `hash` has eight
+ * bytes below 128. An entries-aware chunk has the group's name, then "~" and the entry's name for each of its entries that has one; above
+ * 100 bytes that is cut and ends with "~" and the hash. Another chunk has the group's name at any length. Writes the name to the front of
+ * `name`, which needs as many bytes as gentropi_name_bytes says, and how many bytes it has into `length`. */
+uint32_t gentropi_name(
+    size_t k,
+    size_t e,
+    const uint8_t *group_names, size_t group_names_len,
+    const uint32_t *group_offsets, size_t group_offsets_len,
+    const uint8_t *entry_names, size_t entry_names_len,
+    const uint32_t *entry_offsets, size_t entry_offsets_len,
+    uint32_t number,
+    bool entries_aware,
+    uint64_t word0,
+    uint64_t word1,
+    uint64_t word2,
+    uint64_t word3,
+    const uint8_t *hash, size_t hash_len,
+    uint8_t *name, size_t name_len,
+    size_t *length);
+
 /* How many words of scratch gentropi_capture needs. */
 static inline size_t gentropi_capture_scratch_words(size_t n) {
     return n;
@@ -205,6 +235,11 @@ static inline size_t gentropi_capture_scratch_words(size_t n) {
 /* How many words of bits gentropi_merge needs for k subgroups, and gentropi_chunks for n modules. */
 static inline size_t gentropi_bits_words(size_t items) {
     return GENTROPI_BITS_WORDS * items;
+}
+
+/* How many bytes gentropi_name needs for a name, by the length of the group's name. */
+static inline size_t gentropi_name_bytes(size_t group_name) {
+    return group_name > GENTROPI_CHUNK_NAME_BYTES ? group_name : GENTROPI_CHUNK_NAME_BYTES;
 }
 
 /* How many names a group gives: the answers of 2 and more that differ. Answers above every name are not counted: they are refused

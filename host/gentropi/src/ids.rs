@@ -1,4 +1,4 @@
-//! Stable ids as parts of one byte slice, and how alike two of them are.
+//! Stable ids or names as parts of one byte slice, and how alike two ids are.
 
 use crate::{Refusal, raw};
 
@@ -18,7 +18,7 @@ pub fn similarity(lhs: &[u8], rhs: &[u8]) -> Result<u32, Refusal> {
     Ok(score)
 }
 
-/// Ids as the library reads them: id `i` is `bytes[offsets[i]..offsets[i + 1]]`.
+/// Ids or names as the library reads them: `i` is `bytes[offsets[i]..offsets[i + 1]]`.
 #[derive(Debug, Clone, Copy, PartialEq, Eq)]
 pub struct Ids<'a> {
     /// The slice that the ids are parts of.
@@ -27,7 +27,7 @@ pub struct Ids<'a> {
     pub offsets: &'a [u32],
 }
 
-/// Ids one after another in a slice of its own.
+/// Ids or names one after another in a slice of its own.
 ///
 /// ```
 /// let ids: gentropi::IdBuf = ["ui/a", "ui/b"].into_iter().collect();

@@ -13,11 +13,13 @@
 //! | [`capture`] | what a module captures along its dependencies | a mark for each module |
 //! | [`merge`] | which small subgroups join which | numbers, sizes and entry bits |
 //! | [`chunks`] | how a whole build is divided | the new chunks |
+//! | [`chunk_name`] | what a chunk is called | its name |
 //!
 //! Areas are lent by the caller and may be longer than needed: what lies past the end keeps its
-//! content. [`capture_to_vec`], [`merge_to_vec`] and [`chunks_to_vec`] lend areas of their own. [`raw`]
-//! has the calls with counts apart from lengths, and [`sys`] the C functions. [`needs`] says how long
-//! areas have to be and how much stack a call takes: [`chunks`] some 500 KB, the others little.
+//! content. [`capture_to_vec`], [`merge_to_vec`], [`chunks_to_vec`] and [`chunk_name_to_vec`] lend areas
+//! of their own. [`raw`] has the calls with counts apart from lengths, and [`sys`] the C functions.
+//! [`needs`] says how long areas have to be and how much stack a call takes: [`chunks`] some 500 KB, the
+//! others little.
 //!
 //! # Example
 //!
@@ -52,6 +54,7 @@
 #![warn(missing_docs)]
 
 mod capture;
+mod chunk_name;
 mod chunks;
 mod cut;
 mod filter;
@@ -67,6 +70,7 @@ mod refusal;
 pub mod sys;
 
 pub use capture::{Chains, Modules, capture, capture_to_vec, flag};
+pub use chunk_name::{ChunkToName, chunk_name, chunk_name_to_vec};
 pub use chunks::{Build, Chunk, ChunksAreas, chunks, chunks_to_vec};
 pub use cut::{Cut, cut};
 pub use filter::{FilteredModule, StaticFilter, filter};

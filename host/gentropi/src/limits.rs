@@ -14,3 +14,7 @@ pub const RECORDS: usize = 65_535;
 pub const ID_BYTES: usize = 1_024;
 /// The total of all sizes: up to it each sum is a double exactly.
 pub const TOTAL_SIZE: u64 = 1 << 53;
+/// Bytes of an entries-aware chunk's name; a longer one is cut and ends with a hash.
+pub const CHUNK_NAME_BYTES: usize = 100;
+/// Bytes of that hash.
+pub const HASH_BYTES: usize = 8;

@@ -6,7 +6,9 @@
 
 use std::collections::BTreeSet;
 
-/// The six calls.
+use crate::limits;
+
+/// The seven calls.
 #[derive(Debug, Clone, Copy, PartialEq, Eq, PartialOrd, Ord, Hash)]
 pub enum Call {
     /// [`similarity`](crate::similarity).
@@ -21,12 +23,21 @@ pub enum Call {
     Merge,
     /// [`chunks`](crate::chunks).
     Chunks,
+    /// [`chunk_name`](crate::chunk_name).
+    Name,
 }
 
 impl Call {
     /// All calls.
-    pub const ALL: [Self; 6] =
-        [Self::Similarity, Self::Cut, Self::Filter, Self::Capture, Self::Merge, Self::Chunks];
+    pub const ALL: [Self; 7] = [
+        Self::Similarity,
+        Self::Cut,
+        Self::Filter,
+        Self::Capture,
+        Self::Merge,
+        Self::Chunks,
+        Self::Name,
+    ];
 }
 
 /// How much stack a call takes at most, in bytes, whatever it is handed: the frames of the archive's
@@ -45,7 +56,7 @@ impl Call {
 /// ```
 pub const fn stack_bytes(call: Call) -> usize {
     let kilobytes = match call {
-        Call::Similarity | Call::Cut | Call::Filter => 4,
+        Call::Similarity | Call::Cut | Call::Filter | Call::Name => 4,
         Call::Capture => 160,
         Call::Merge => 64,
         Call::Chunks => 576,
@@ -118,4 +129,15 @@ pub fn chunks_scratch_words(answers: &[u32], modules: usize) -> usize {
     };
     let pairs: usize = answers.chunks(modules.max(1)).map(named).sum();
     (pairs + 32) * modules
+}
+
+/// How many bytes the area of [`chunk_name`](crate::chunk_name) needs, by the length of the group's
+/// name: 100, or as many as that has, also where the chunk's name comes out shorter.
+///
+/// ```
+/// assert_eq!(gentropi::needs::name_bytes(7), 100);
+/// assert_eq!(gentropi::needs::name_bytes(101), 101);
+/// ```
+pub const fn name_bytes(group_name: usize) -> usize {
+    if group_name > limits::CHUNK_NAME_BYTES { group_name } else { limits::CHUNK_NAME_BYTES }
 }

@@ -23,6 +23,10 @@
 
 use crate::{FilteredModule, StaticFilter, sys};
 
+mod name;
+
+pub use name::{NameTables, name};
+
 /// Similarity of two ids: writes `score`.
 ///
 /// ```

@@ -25,7 +25,7 @@ impl Refusal {
     pub const COUNT: Self = Self::numbered(1);
     /// 2: a table's length is not the one that the counts imply.
     pub const LENGTH: Self = Self::numbered(2);
-    /// 3: an id offset falls or passes the end of the slice, or an id is too long.
+    /// 3: an offset of ids or names falls or passes the end of the slice, or an id is too long.
     pub const ID: Self = Self::numbered(3);
     /// 4: two modules that are normal and included have the same stable id.
     pub const SAME_ID: Self = Self::numbered(4);
@@ -39,7 +39,7 @@ impl Refusal {
     pub const NAN: Self = Self::numbered(8);
     /// 9: a flag byte is above 7, or an entry bit is not below the count of entries.
     pub const BIT: Self = Self::numbered(9);
-    /// 10: an answer names no name, or the start is no module.
+    /// 10: an answer or a chunk's number names no name, or the start is no module.
     pub const NUMBER: Self = Self::numbered(10);
     /// 11: the chunk count on entry is above 65,535.
     pub const CHUNK_COUNT: Self = Self::numbered(11);
@@ -47,9 +47,15 @@ impl Refusal {
     pub const AREA: Self = Self::numbered(12);
     /// 13: the scratch is too short.
     pub const SCRATCH: Self = Self::numbered(13);
+    /// 14: a name isn't UTF-8.
+    pub const UTF8: Self = Self::numbered(14);
+    /// 15: the names of groups don't strictly ascend in byte order.
+    pub const NAME_ORDER: Self = Self::numbered(15);
+    /// 16: the hash isn't eight bytes below 128.
+    pub const HASH: Self = Self::numbered(16);
 
     /// All refusals, in ascending order.
-    pub const ALL: [Self; 13] = [
+    pub const ALL: [Self; 16] = [
         Self::COUNT,
         Self::LENGTH,
         Self::ID,
@@ -63,6 +69,9 @@ impl Refusal {
         Self::CHUNK_COUNT,
         Self::AREA,
         Self::SCRATCH,
+        Self::UTF8,
+        Self::NAME_ORDER,
+        Self::HASH,
     ];
 
     const fn numbered(number: u32) -> Self {
@@ -103,17 +112,20 @@ impl Refusal {
         match self.number {
             1 => "a count is above its limit",
             2 => "a table's length is not the one that the counts imply",
-            3 => "an id offset falls or passes the end, or an id has more than 1,024 bytes",
+            3 => "an offset falls or passes the end, or an id has more than 1,024 bytes",
             4 => "two normal included modules have the same stable id",
             5 => "two normal included modules have the same execution order",
             6 => "the sizes add to more than 2^53",
             7 => "a record or the module it names is out of range, or a chain doesn't end",
             8 => "a limit or a threshold is NaN",
             9 => "a flag byte is above 7, or an entry bit is not below the count of entries",
-            10 => "an answer is above the names, or the start module is out of range",
+            10 => "an answer or a number is above the names, or the start module is out of range",
             11 => "the chunk count on entry is above 65,535",
             12 => "an output area is shorter than the call needs",
             13 => "the scratch is shorter than the call needs",
+            14 => "a name isn't UTF-8",
+            15 => "the names of groups don't strictly ascend in byte order",
+            16 => "the hash isn't eight bytes below 128",
             _ => "a condition that this binding doesn't know",
         }
     }

@@ -183,4 +183,30 @@ unsafe extern "C" {
         scratch_len: usize,
         count: *mut usize,
     ) -> u32;
+
+    /// Name of a chunk, among `k` names of groups and `e` names of entries. Writes the name to the
+    /// front of `name`, and how many bytes it has into `length`.
+    pub fn gentropi_name(
+        k: usize,
+        e: usize,
+        group_names: *const u8,
+        group_names_len: usize,
+        group_offsets: *const u32,
+        group_offsets_len: usize,
+        entry_names: *const u8,
+        entry_names_len: usize,
+        entry_offsets: *const u32,
+        entry_offsets_len: usize,
+        number: u32,
+        entries_aware: bool,
+        word0: u64,
+        word1: u64,
+        word2: u64,
+        word3: u64,
+        hash: *const u8,
+        hash_len: usize,
+        name: *mut u8,
+        name_len: usize,
+        length: *mut usize,
+    ) -> u32;
 }

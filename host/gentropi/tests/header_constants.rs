@@ -37,6 +37,8 @@ fn limits_are_the_same() {
         ("NAMES", limits::NAMES),
         ("RECORDS", limits::RECORDS),
         ("ID_BYTES", limits::ID_BYTES),
+        ("CHUNK_NAME_BYTES", limits::CHUNK_NAME_BYTES),
+        ("HASH_BYTES", limits::HASH_BYTES),
         ("BITS_WORDS", needs::bits_words(1)),
     ] {
         assert_eq!(defined(&header, name), limit as u64, "{name}");
@@ -64,7 +66,7 @@ fn refusals_are_the_same() {
         assert_eq!(enumerated(&header, name), u64::from(refusal.number()), "{name}");
         count += 1;
     }
-    assert_eq!((count, enumerated(&header, "ACCEPTED")), (13, 0));
+    assert_eq!((count, enumerated(&header, "ACCEPTED")), (16, 0));
 }
 
 #[test]

@@ -183,6 +183,18 @@ fn the_stack_is_enough_for_the_largest_leaves() {
     let ids = owned.ids.as_ids();
     let cut = on_its_stack(Call::Cut, || gentropi::cut(ids, &owned.sizes, 10.0, 100.0));
     assert!(cut.is_ok_and(|cut| cut.is_some()));
+    let names: IdBuf = (0..limits::NAMES).map(|number| format!("{number:05}")).collect();
+    let entries: IdBuf = (0..limits::ENTRIES).map(|entry| format!("entry {entry}")).collect();
+    let chunk = gentropi::ChunkToName {
+        group_names: names.as_ids(),
+        entry_names: entries.as_ids(),
+        number: 65_534,
+        entries_aware: true,
+        bits: [u64::MAX; 4],
+        hash: b"01234567",
+    };
+    let named = on_its_stack(Call::Name, || gentropi::chunk_name_to_vec(&chunk));
+    assert_eq!(named.map(|name| name.len()), Ok(limits::CHUNK_NAME_BYTES));
     let id = [7; limits::ID_BYTES];
     assert_eq!(on_its_stack(Call::Similarity, || gentropi::similarity(&id, &id)), Ok(10_240));
 }

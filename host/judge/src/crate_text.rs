@@ -1,5 +1,6 @@
 //! One copy of the crate's text, as functions.
 
+use arcstr::ArcStr;
 use rolldown_common::{ModuleIdx, ModuleTable};
 use rolldown_error::BuildResult;
 use rolldown_utils::{BitSet, IndexBitSet};
@@ -21,6 +22,9 @@ pub struct CrateText {
     pub filter: fn(&World) -> bool,
     /// `merge_entries_aware_subgroups`, where subgroup i holds module i and these bits.
     pub merge: fn(&ModuleTable, &[BitSet], f64) -> Vec<RemainingSubgroup>,
+    /// `emit_chunk_from_group` of group 0 with module 0 and this name: the chunk's name, which
+    /// `derive_entries_aware_chunk_name` makes if the group is entries-aware.
+    pub name: fn(&World, &str) -> ArcStr,
     /// `apply_manual_code_splitting`, which runs the whole of `split`.
     pub split: fn(&World, &mut ChunkGraph, &mut IndexBitSet<ModuleIdx>) -> BuildResult<()>,
 }

@@ -3,9 +3,9 @@
 use std::fmt;
 
 use rustc_hash::order::{Order, Orders};
-use text::{Answer, Question, tables::effective};
+use text::{Answer, Chunks, Question, tables::effective};
 
-use crate::{CrateText, copies, leaves, whole};
+use crate::{CrateText, copies, leaves, names, whole};
 
 /// In which order hash maps and hash sets are walked.
 #[derive(Debug, Clone, Copy, PartialEq, Eq)]
@@ -58,6 +58,9 @@ pub enum Callbacks {
 pub enum Outside {
     /// An id isn't UTF-8, and the crate's ids are.
     IdIsNoText,
+    /// An entry of an entries-aware chunk has an empty name, which the crate shows as a bare "~" and
+    /// document 02 passes over.
+    EmptyEntryName,
     /// The text and its probed copy disagree, or the text failed.
     Broken(String),
 }
@@ -66,6 +69,7 @@ impl fmt::Display for Outside {
     fn fmt(&self, f: &mut fmt::Formatter<'_>) -> fmt::Result {
         match self {
             Self::IdIsNoText => write!(f, "an id isn't UTF-8"),
+            Self::EmptyEntryName => write!(f, "an entry of the chunk has an empty name"),
             Self::Broken(message) => write!(f, "{message}"),
         }
     }
@@ -100,7 +104,7 @@ impl Judge {
         Self { text, probed: text, ..Self::default() }
     }
 
-    /// What the text answers. Only questions that document 01 accepts may be asked; areas, which
+    /// What the text answers. Only questions that the papers accept may be asked; areas, which
     /// the crate doesn't have, are passed over.
     pub fn answer(&self, question: &Question) -> Result<Answer, Outside> {
         match &effective(question) {
@@ -109,7 +113,21 @@ impl Judge {
             Question::Capture(capture) => leaves::capture(self.text, capture).map(Answer::Capture),
             Question::Filter(filter) => leaves::filter(self, filter).map(Answer::Filter),
             Question::Merge(merge) => leaves::merge(self, merge).map(Answer::Merge),
+            Question::Name(name) => names::name(self.text, name).map(Answer::Name),
             Question::Chunks(chunks) => whole::chunks(self, &chunks.build).map(Answer::Chunks),
+        }
+    }
+    /// What the text calls the new chunks of a build that document 01 accepts, where entries have
+    /// these names. Where a name is cut, this hash stands in it.
+    pub fn names(
+        &self,
+        chunks: &Chunks,
+        entry_names: &[Vec<u8>],
+        hash: &str,
+    ) -> Result<Vec<Vec<u8>>, Outside> {
+        match effective(&Question::Chunks(Box::new(chunks.clone()))) {
+            Question::Chunks(chunks) => whole::names(self, &chunks.build, entry_names, hash),
+            _ => Err(Outside::Broken("a build became another call".into())),
         }
     }
 }

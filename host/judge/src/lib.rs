@@ -13,6 +13,7 @@ mod crate_text;
 mod groups;
 mod judge;
 mod leaves;
+mod names;
 pub mod probe;
 pub mod stages;
 pub mod timed;
@@ -27,6 +28,7 @@ include!(concat!(env!("OUT_DIR"), "/chunk_graph.rs"));
 use std::sync::Arc;
 
 pub use crate_text::{CrateText, RemainingSubgroup};
+pub use groups::name_text;
 pub use judge::{Callbacks, Judge, Outside, Walk};
 use rolldown_common::NormalizedBundlerOptions;
 pub use world::World;

@@ -12,6 +12,7 @@ pub static TEXT: CrateText = CrateText {
     capture,
     filter,
     merge,
+    name,
     split,
 };
 
@@ -39,12 +40,45 @@ fn capture(world: &World, start: ModuleIdx, recursively: bool) -> Vec<ModuleIdx>
 }
 
 fn filter(world: &World) -> bool {
+    let module = world.link_output.module_table[ModuleIdx::from_usize(0)].as_normal();
+    let (mut graph, mut assigned) = (ChunkGraph::new(1), world.module_to_assigned.clone());
+    let splitter = splitter(world, &mut graph, &mut assigned);
+    let group = splitter.match_groups[0];
+    splitter.passes_static_filters(0, group, module.expect("a normal module"))
+}
+
+fn name(world: &World, group_name: &str) -> ArcStr {
+    let module = ModuleIdx::from_usize(0);
+    let (mut graph, mut assigned) = (ChunkGraph::new(1), world.module_to_assigned.clone());
+    let mut splitter = splitter(world, &mut graph, &mut assigned);
+    let bits = splitter.match_groups[0]
+        .entries_aware
+        .unwrap_or(false)
+        .then(|| world.index_splitting_info[module].bits.clone());
+    let group = ModuleGroup {
+        name: ArcStr::from(group_name),
+        match_group_index: 0,
+        modules: std::iter::once(module).collect(),
+        priority: 0,
+        sizes: 0.0,
+        entries_aware_bits: bits,
+    };
+    splitter.emit_chunk_from_group(&group, &mut []);
+    let made = graph.chunk_table.iter().next().expect("a chunk is made");
+    made.name.clone().expect("it has a name")
+}
+
+/// The splitter of a world that has one group.
+fn splitter<'a>(
+    world: &'a World,
+    chunk_graph: &'a mut ChunkGraph,
+    module_to_assigned: &'a mut IndexBitSet<ModuleIdx>,
+) -> ManualSplitter<'a> {
     let chunking_options = world.options.manual_code_splitting.as_ref().expect("options are given");
     let groups = chunking_options.groups.as_ref().expect("a group is given");
-    let module = world.link_output.module_table[ModuleIdx::from_usize(0)].as_normal();
     let required_tags =
         groups[0].tags.as_ref().map(|tags| world.tag_registry.compile_tags_to_bit_set(tags));
-    let splitter = ManualSplitter {
+    ManualSplitter {
         link_output: &world.link_output,
         index_splitting_info: &world.index_splitting_info,
         options: &world.options,
@@ -53,11 +87,10 @@ fn filter(world: &World) -> bool {
         match_group_required_tags: vec![required_tags],
         plugin_driver: &world.plugin_driver,
         input_base: &world.input_base,
-        chunk_graph: &mut ChunkGraph::new(1),
-        module_to_assigned: &mut world.module_to_assigned.clone(),
-        flattened_entries: Vec::new(),
-    };
-    splitter.passes_static_filters(0, &groups[0], module.expect("a normal module"))
+        chunk_graph,
+        module_to_assigned,
+        flattened_entries: world.link_output.entries.iter().flat_map(|(_, entries)| entries).collect(),
+    }
 }
 
 fn merge(module_table: &ModuleTable, bits: &[BitSet], threshold: f64) -> Vec<RemainingSubgroup> {

@@ -2,7 +2,7 @@
 
 use oxc_index::Idx;
 use rolldown_common::{Chunk, ChunkIdx, ChunkKind, ChunkReasonType, ModuleIdx};
-use rolldown_utils::{BitSet, IndexBitSet};
+use rolldown_utils::{BitSet, IndexBitSet, xxhash::handed_out};
 use rustc_hash::order::under;
 use text::{Build, ChunkList};
 
@@ -11,6 +11,7 @@ use crate::{
     bits::words,
     chunk_graph::ChunkGraph,
     groups::{match_groups, name_number},
+    names::entries,
     probe::{self, clock},
 };
 
@@ -32,6 +33,25 @@ pub fn chunks(judge: &Judge, build: &Build) -> Result<ChunkList, Outside> {
         chunk.size = size;
     }
     Ok(list)
+}
+
+/// The names of a build's new chunks, where entries have these names; this hash stands in those that
+/// are cut.
+pub fn names(
+    judge: &Judge,
+    build: &Build,
+    entry_names: &[Vec<u8>],
+    hash: &str,
+) -> Result<Vec<Vec<u8>>, Outside> {
+    let mut world = World::new(build, match_groups(build, judge.callbacks))?;
+    world.link_output.entries = entries(entry_names)?;
+    let exec_orders: Vec<u32> = build.modules.iter().map(|module| module.order).collect();
+    let run = || run_text(judge.text, &world, build);
+    let (graph, _) = handed_out(hash, || under(judge.walk.orders(&exec_orders), run))?;
+    let new = graph.chunk_table.iter().skip(build.count_on_entry as usize);
+    let named = |chunk: &Chunk| Some(chunk.name.as_ref()?.as_bytes().to_vec());
+    let names: Option<_> = new.map(named).collect();
+    names.ok_or_else(|| Outside::Broken("a chunk without its name".into()))
 }
 
 /// Runs one copy, from the callbacks to the sorted modules. Sizes are left at zero.

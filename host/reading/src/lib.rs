@@ -1,7 +1,8 @@
-//! An independent plain reading of document 01: the refusals by its tables, and the results.
+//! An independent plain reading of document 01 and of document 02's note 1: the refusals by their
+//! tables, and the results.
 //!
-//! It is written from the paper and not from the crate, for small inputs and without any care
-//! for speed, so that it shows where the paper and the crate disagree. Nothing of it is proved.
+//! It is written from the papers and not from the crate, for small inputs and without any care
+//! for speed, so that it shows where the papers and the crate disagree. Nothing of it is proved.
 #![forbid(unsafe_code)]
 
 pub mod capture;
@@ -10,11 +11,13 @@ pub mod cut;
 pub mod fault_list;
 pub mod filter;
 pub mod merge;
+pub mod name;
 pub mod refusals;
 pub mod rules;
 pub mod similarity;
 pub mod story;
 pub mod trace;
+pub mod utf8;
 
 use text::{Answer, ChunkList, CutAnswer, Question, tables};
 
@@ -45,6 +48,11 @@ pub fn answer(question: &Question) -> Result<Answer, u32> {
             let tables = tables::of_merge(merge);
             refuse(refusals::merge(&tables))?;
             Ok(Answer::Merge(merge_answer(&tables)))
+        }
+        Question::Name(question) => {
+            let tables = tables::of_name(question);
+            refuse(refusals::name(&tables))?;
+            Ok(Answer::Name(name::name(&tables)))
         }
         Question::Chunks(chunks) => outcome(&tables::of_chunks(chunks), SOUND).map(Answer::Chunks),
     }
@@ -90,7 +98,7 @@ fn merge_answer(tables: &tables::MergeTables) -> Vec<text::MergedSubgroup> {
     (0..tables.sizes.len()).map(one).collect()
 }
 
-/// The id of a module, as a part of the slice.
+/// The id of a module or one of several names, as a part of the slice.
 pub fn id<'a>(ids: &'a [u8], offsets: &[u32], module: usize) -> &'a [u8] {
     &ids[offsets[module] as usize..offsets[module + 1] as usize]
 }

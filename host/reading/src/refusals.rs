@@ -1,4 +1,5 @@
-//! Document 01's two tables of refusals: of the numbers a call tests, the lowest that applies.
+//! Document 01's two tables of refusals, and note 1's: of the numbers a call tests, the lowest that
+//! applies.
 
 use std::collections::BTreeSet;
 
@@ -13,6 +14,10 @@ use crate::{
     id, row,
     rules::{Level, ReadingFault as F, Rules, SOUND, Setting},
 };
+
+mod name;
+
+pub use name::name;
 
 /// The limits of the counts.
 pub const MODULES: u64 = 4_096;

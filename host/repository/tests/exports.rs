@@ -31,7 +31,7 @@ fn every_export_is_found() {
         .map(|source| read(source).matches("#[no_mangle]").count())
         .sum();
     assert_eq!(exported().len(), marked);
-    assert!(marked >= 6, "{marked} functions are exported");
+    assert!(marked >= 7, "{marked} functions are exported");
 }
 
 #[test]

@@ -11,7 +11,7 @@ pub struct Case {
     pub question: Question,
 }
 
-/// The six calls.
+/// The seven calls.
 #[derive(Debug, Clone, Copy, PartialEq, Eq, PartialOrd, Ord)]
 pub enum Call {
     Similarity,
@@ -20,12 +20,20 @@ pub enum Call {
     Filter,
     Merge,
     Chunks,
+    Name,
 }
 
 impl Call {
     /// All calls, leaves first.
-    pub const ALL: [Self; 6] =
-        [Self::Similarity, Self::Cut, Self::Capture, Self::Filter, Self::Merge, Self::Chunks];
+    pub const ALL: [Self; 7] = [
+        Self::Similarity,
+        Self::Cut,
+        Self::Capture,
+        Self::Filter,
+        Self::Merge,
+        Self::Name,
+        Self::Chunks,
+    ];
 
     /// The word that stands for the call in a text.
     pub fn word(self) -> &'static str {
@@ -36,6 +44,7 @@ impl Call {
             Self::Filter => "filter",
             Self::Merge => "merge",
             Self::Chunks => "chunks",
+            Self::Name => "name",
         }
     }
 }
@@ -49,6 +58,7 @@ pub enum Question {
     Filter(Filter),
     Merge(Merge),
     Chunks(Box<Chunks>),
+    Name(Box<Name>),
 }
 
 impl Question {
@@ -61,6 +71,7 @@ impl Question {
             Self::Filter(_) => Call::Filter,
             Self::Merge(_) => Call::Merge,
             Self::Chunks(_) => Call::Chunks,
+            Self::Name(_) => Call::Name,
         }
     }
 
@@ -72,6 +83,7 @@ impl Question {
             Self::Capture(capture) => Some(&capture.damage),
             Self::Merge(merge) => Some(&merge.damage),
             Self::Chunks(chunks) => Some(&chunks.damage),
+            Self::Name(name) => Some(&name.damage),
         }
     }
 }
@@ -140,6 +152,22 @@ pub struct Capture {
 pub struct Record {
     pub module: u32,
     pub next: u32,
+}
+
+/// A chunk that is to be named.
+#[derive(Debug, Clone, PartialEq, Eq)]
+pub struct Name {
+    /// The names that groups give; a name's number is its place.
+    pub group_names: Vec<Vec<u8>>,
+    /// The name of each entry.
+    pub entry_names: Vec<Vec<u8>>,
+    /// The number of the chunk's name.
+    pub number: u32,
+    pub entries_aware: bool,
+    pub bits: [u64; 4],
+    /// What the host hands in as the hash of the full name.
+    pub hash: Vec<u8>,
+    pub damage: Damage,
 }
 
 /// A whole build, with its damage.

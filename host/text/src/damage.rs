@@ -27,10 +27,14 @@ pub enum Table {
     Priority,
     Threshold,
     Answers,
+    /// The offsets of the names of groups.
+    NameOffsets,
+    /// The offsets of the names of entries.
+    EntryOffsets,
 }
 
 impl Table {
-    /// The tables with their words, those of groups as one.
+    /// The tables of builds and of the calls within them, with their words, those of groups as one.
     pub const ALL: [(Self, &'static str); 12] = [
         (Self::Flags, "flags"),
         (Self::Sizes, "sizes"),
@@ -59,6 +63,10 @@ impl Table {
         (Self::Threshold, "threshold"),
     ];
 
+    /// The tables of a name call with their words.
+    pub const OF_NAMES: [(Self, &'static str); 2] =
+        [(Self::NameOffsets, "name_offsets"), (Self::EntryOffsets, "entry_offsets")];
+
     /// The word that stands for it in a text.
     pub fn word(self) -> &'static str {
         Self::named().find(|(table, _)| *table == self).map_or("", |(_, word)| word)
@@ -66,6 +74,11 @@ impl Table {
 
     /// Every table that a text can name, with its word.
     pub fn named() -> impl Iterator<Item = (Self, &'static str)> {
+        Self::of_builds().chain(Self::OF_NAMES)
+    }
+
+    /// The tables that a whole build has.
+    pub fn of_builds() -> impl Iterator<Item = (Self, &'static str)> {
         Self::ALL.into_iter().chain(Self::OF_GROUPS)
     }
 }
@@ -101,6 +114,10 @@ impl Count {
 pub struct Damage {
     /// Other id offsets.
     pub offsets: Option<Vec<u32>>,
+    /// Other offsets of the names of groups.
+    pub name_offsets: Option<Vec<u32>>,
+    /// Other offsets of the names of entries.
+    pub entry_offsets: Option<Vec<u32>>,
     /// Tables that are cut, or lengthened with zeros.
     pub lengths: Vec<(Table, usize)>,
     /// Counts that are changed while the tables stay.

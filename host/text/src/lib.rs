@@ -22,6 +22,7 @@ mod read_reply;
 pub mod reply;
 pub mod tables;
 pub mod tree;
+mod with_lines;
 mod words;
 mod write_case;
 mod write_reply;
@@ -29,7 +30,7 @@ mod write_reply;
 use std::fmt;
 
 pub use case::{Build, Call, Capture, Case, Chunks, Cut, Filter, Group, Merge, Module, Options};
-pub use case::{Question, Record, Sim, Subgroup};
+pub use case::{Name, Question, Record, Sim, Subgroup};
 pub use damage::{Count, Damage, Table};
 pub use lines::whole_text;
 pub use quote::Quoted;

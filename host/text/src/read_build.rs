@@ -3,7 +3,7 @@
 use crate::{
     Build, Chunks, Count, Damage, Group, Module, Quoted, Table, TextError,
     lines::Lines,
-    read_leaf::{count_line, length_line},
+    with_lines::{count_line, length_line},
     words::Words,
 };
 
@@ -126,7 +126,7 @@ fn step(words: &mut Words<'_>, stage: usize) -> Result<usize, TextError> {
 }
 
 fn all_tables() -> Vec<Table> {
-    Table::named().map(|(table, _)| table).collect()
+    Table::of_builds().map(|(table, _)| table).collect()
 }
 
 fn all_counts() -> Vec<Count> {

@@ -1,8 +1,8 @@
 //! Reads a leaf call, with the `with` lines before it, and finds the start of a build.
 
 use crate::{
-    Capture, Case, Count, Cut, Damage, Filter, Merge, Question, Quoted, Sim, Subgroup, Table,
-    TextError, lines::Lines, read_build, words::Words,
+    Capture, Case, Cut, Damage, Filter, Merge, Name, Question, Quoted, Sim, Subgroup, TextError,
+    lines::Lines, read_build, with_lines::damaged, words::Words,
 };
 
 /// The next case of a text, or `None` at its end.
@@ -32,7 +32,7 @@ fn case(
     mut words: Words<'_>,
     withs: Vec<Words<'_>>,
 ) -> Result<Case, TextError> {
-    let known = ["chunks", "sim", "cut", "merge", "filter", "capture"];
+    let known = ["chunks", "sim", "cut", "merge", "filter", "capture", "name"];
     if !known.contains(&command) {
         return words.error(format!("unknown call `{}`", Quoted(command)));
     }
@@ -43,6 +43,7 @@ fn case(
         "cut" => Question::Cut(cut(&mut words)?),
         "merge" => Question::Merge(merge(&mut words)?),
         "filter" => Question::Filter(filter(&mut words)?),
+        "name" => Question::Name(Box::new(name(&mut words)?)),
         _ => Question::Capture(capture(&mut words)?),
     };
     Ok(Case { tag, question: damaged(question, withs)? })
@@ -102,100 +103,18 @@ fn capture(words: &mut Words<'_>) -> Result<Capture, TextError> {
     Ok(capture)
 }
 
-/// What the `with` lines may say to one call: its tables, its counts, and how many areas it has.
-struct Allowed {
-    offsets: Option<usize>,
-    tables: &'static [Table],
-    counts: &'static [Count],
-    areas: usize,
-}
-
-/// Puts the `with` lines into the question that follows them.
-fn damaged(mut question: Question, withs: Vec<Words<'_>>) -> Result<Question, TextError> {
-    let (allowed, damage) = match &mut question {
-        Question::Cut(cut) => (cut_allows(cut.modules.len()), &mut cut.damage),
-        Question::Merge(merge) => (MERGE_ALLOWS, &mut merge.damage),
-        Question::Capture(capture) => (CAPTURE_ALLOWS, &mut capture.damage),
-        _ => {
-            return match withs.first() {
-                None => Ok(question),
-                Some(with) => {
-                    with.error(format!("`with` can't stand before `{}`", question.call().word()))
-                }
-            };
-        }
+fn name(words: &mut Words<'_>) -> Result<Name, TextError> {
+    let names = words.length("K")?;
+    let entries = words.length("E")?;
+    let name = Name {
+        number: words.number("NUMBER")?,
+        entries_aware: words.yes("AWARE")?,
+        bits: words.bits()?,
+        hash: words.bytes("HASH")?,
+        group_names: words.times(names, |words| words.bytes("a group's name"))?,
+        entry_names: words.times(entries, |words| words.bytes("an entry's name"))?,
+        damage: Damage::default(),
     };
-    for with in withs {
-        with_line(with, &allowed, damage)?;
-    }
-    Ok(question)
-}
-
-/// Cut: its own offsets, of which there are one more than modules.
-fn cut_allows(modules: usize) -> Allowed {
-    Allowed {
-        offsets: Some(modules + 1),
-        tables: &[Table::Offsets, Table::Sizes],
-        counts: &[Count::N],
-        areas: 0,
-    }
-}
-
-const MERGE_ALLOWS: Allowed = Allowed {
-    offsets: None,
-    tables: &[Table::Sizes, Table::Bits],
-    counts: &[Count::K, Count::E],
-    areas: 3,
-};
-
-const CAPTURE_ALLOWS: Allowed = Allowed {
-    offsets: None,
-    tables: &[Table::Flags, Table::First, Table::DepModule, Table::DepNext],
-    counts: &[Count::N, Count::D],
-    areas: 2,
-};
-
-/// Reads one `with` line, whose first word has been read.
-fn with_line(
-    mut words: Words<'_>,
-    allowed: &Allowed,
-    damage: &mut Damage,
-) -> Result<(), TextError> {
-    match words.word("offsets, len, count or areas")? {
-        "offsets" => match allowed.offsets {
-            Some(count) => {
-                damage.offsets = Some(words.times(count, |words| words.number("an offset"))?);
-            }
-            None => return words.error("the call that follows has no offsets"),
-        },
-        "len" => damage.lengths.push(length_line(&mut words, allowed.tables)?),
-        "count" => damage.counts.push(count_line(&mut words, allowed.counts)?),
-        "areas" if allowed.areas > 0 => {
-            damage.areas = Some(words.times(allowed.areas, |words| words.area("LENGTH"))?);
-        }
-        "areas" => return words.error("the call that follows has no areas"),
-        word => return words.error(format!("`with` can't be followed by `{}`", Quoted(word))),
-    }
-    words.end()
-}
-
-/// `TABLE LENGTH`, one of these tables.
-pub fn length_line(words: &mut Words<'_>, tables: &[Table]) -> Result<(Table, usize), TextError> {
-    let word = words.word("TABLE")?;
-    let table = Table::named().find(|(table, name)| *name == word && tables.contains(table));
-    match table {
-        Some((table, _)) => Ok((table, words.length("LENGTH")?)),
-        None => words.error(format!("the call has no table `{}`", Quoted(word))),
-    }
-}
-
-/// `COUNT VALUE`, one of these counts.
-pub fn count_line(words: &mut Words<'_>, counts: &[Count]) -> Result<(Count, u64), TextError> {
-    let word = words.word("a count")?;
-    let count =
-        Count::ALL.into_iter().find(|(count, name)| *name == word && counts.contains(count));
-    match count {
-        Some((count, _)) => Ok((count, words.number("VALUE")?)),
-        None => words.error(format!("the call has no count `{}`", Quoted(word))),
-    }
+    words.end()?;
+    Ok(name)
 }

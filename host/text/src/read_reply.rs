@@ -35,6 +35,7 @@ fn answer(lines: &mut Lines<'_>, call: Call, words: &mut Words<'_>) -> Result<An
         Call::Capture => Answer::Capture(marks(words)?),
         Call::Filter => Answer::Filter(words.yes("the answer")?),
         Call::Merge => Answer::Merge(words.all(merged)?),
+        Call::Name => Answer::Name(name(words)?),
         Call::Chunks => Answer::Chunks(chunk_list(lines, words)?),
     };
     words.end()?;
@@ -91,6 +92,15 @@ fn subgroup(parts: &[&str]) -> Option<MergedSubgroup> {
     };
     let bits = [hexadecimal(a)?, hexadecimal(b)?, hexadecimal(c)?, hexadecimal(d)?];
     Some(MergedSubgroup { number: decimal(number)?, size: decimal(size)?, bits })
+}
+
+fn name(words: &mut Words<'_>) -> Result<Vec<u8>, TextError> {
+    let length: usize = words.number("LENGTH")?;
+    let name = words.bytes("NAME")?;
+    if name.len() != length {
+        return words.error(format!("a name of {} bytes isn't one of {length}", name.len()));
+    }
+    Ok(name)
 }
 
 fn chunk_list(lines: &mut Lines<'_>, words: &mut Words<'_>) -> Result<ChunkList, TextError> {

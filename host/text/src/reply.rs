@@ -26,6 +26,8 @@ pub enum Answer {
     Filter(bool),
     Merge(Vec<MergedSubgroup>),
     Chunks(ChunkList),
+    /// The bytes of a chunk's name.
+    Name(Vec<u8>),
 }
 
 /// A cut with its two sizes.

@@ -5,8 +5,10 @@ use std::collections::BTreeSet;
 use crate::{Build, Capture, Chunks, Count, Cut, Group, Merge, Options, Table};
 
 mod effective;
+mod name;
 
 pub use effective::effective;
+pub use name::{NameTables, area_of_name, of_name};
 
 /// How much longer than needed an area is when a case doesn't say.
 pub const SPARE: usize = 3;
@@ -225,7 +227,7 @@ pub fn scratch_need(build: &Build) -> usize {
     (pairs + 32) * build.modules.len()
 }
 
-/// Ids one after another, and their offsets.
+/// Ids or names one after another, and their offsets.
 fn slice_of<'a>(ids: impl Iterator<Item = &'a [u8]>) -> (Vec<u8>, Vec<u32>) {
     let mut slice = Vec::new();
     let mut offsets = vec![0];

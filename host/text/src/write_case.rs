@@ -3,7 +3,8 @@
 use std::fmt::{Display, Formatter, LowerHex, Result};
 
 use crate::{
-    Build, Capture, Case, Chunks, Cut, Damage, Filter, Group, Merge, Module, Options, Question,
+    Build, Capture, Case, Chunks, Cut, Damage, Filter, Group, Merge, Module, Name, Options,
+    Question, Table,
 };
 
 impl Display for Case {
@@ -19,6 +20,7 @@ impl Display for Case {
             Question::Capture(question) => capture(f, question)?,
             Question::Filter(question) => filter(f, question)?,
             Question::Merge(question) => merge(f, question)?,
+            Question::Name(question) => name(f, question)?,
             Question::Chunks(question) => chunks(f, question)?,
         }
         writeln!(f)
@@ -33,7 +35,7 @@ impl Case {
 }
 
 /// Bytes as hexadecimal pairs, or `.` for none.
-struct Bytes<'a>(&'a [u8]);
+pub struct Bytes<'a>(pub &'a [u8]);
 
 impl Display for Bytes<'_> {
     fn fmt(&self, f: &mut Formatter<'_>) -> Result {
@@ -113,6 +115,15 @@ fn capture(f: &mut Formatter<'_>, capture: &Capture) -> Result {
     capture.records.iter().try_for_each(|record| write!(f, " {} {}", record.module, record.next))
 }
 
+fn name(f: &mut Formatter<'_>, name: &Name) -> Result {
+    let Name { group_names, entry_names, number, entries_aware, bits, hash, .. } = name;
+    write!(f, " {} {}", group_names.len(), entry_names.len())?;
+    write!(f, " {number} {}", u8::from(*entries_aware))?;
+    each_hex(f, *bits)?;
+    write!(f, " {}", Bytes(hash))?;
+    each(f, group_names.iter().chain(entry_names).map(|name| Bytes(name)))
+}
+
 /// All of a build but the end of its last line.
 fn chunks(f: &mut Formatter<'_>, chunks: &Chunks) -> Result {
     let Build { entries, names, count_on_entry, options: global, .. } = &chunks.build;
@@ -157,10 +168,12 @@ fn group(f: &mut Formatter<'_>, group: &Group) -> Result {
 
 /// The lines that damage a case, each with something before it.
 fn damage_lines(f: &mut Formatter<'_>, damage: &Damage, before: &str) -> Result {
-    if let Some(offsets) = &damage.offsets {
-        write!(f, "{before}offsets")?;
-        each(f, offsets)?;
-        writeln!(f)?;
+    for (table, offsets) in [
+        (Table::Offsets, &damage.offsets),
+        (Table::NameOffsets, &damage.name_offsets),
+        (Table::EntryOffsets, &damage.entry_offsets),
+    ] {
+        numbers_line(f, before, table.word(), offsets.as_deref())?;
     }
     for (table, length) in &damage.lengths {
         writeln!(f, "{before}len {} {length}", table.word())?;
@@ -168,15 +181,21 @@ fn damage_lines(f: &mut Formatter<'_>, damage: &Damage, before: &str) -> Result 
     for (count, value) in &damage.counts {
         writeln!(f, "{before}count {} {value}", count.word())?;
     }
-    if let Some(areas) = &damage.areas {
-        write!(f, "{before}areas")?;
-        each(f, areas)?;
-        writeln!(f)?;
-    }
-    if let Some(records) = &damage.records {
-        write!(f, "{before}records")?;
-        each(f, records)?;
-        writeln!(f)?;
-    }
-    Ok(())
+    numbers_line(f, before, "areas", damage.areas.as_deref())?;
+    numbers_line(f, before, "records", damage.records.as_deref())
+}
+
+/// A line of numbers after a word, if there are any.
+fn numbers_line<T: Display>(
+    f: &mut Formatter<'_>,
+    before: &str,
+    word: &str,
+    numbers: Option<&[T]>,
+) -> Result {
+    let Some(numbers) = numbers else {
+        return Ok(());
+    };
+    write!(f, "{before}{word}")?;
+    each(f, numbers)?;
+    writeln!(f)
 }

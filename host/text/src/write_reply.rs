@@ -2,7 +2,7 @@
 
 use std::fmt::{Display, Formatter, Result};
 
-use crate::{Answer, Chunk, ChunkList, Reply};
+use crate::{Answer, Chunk, ChunkList, Reply, write_case::Bytes};
 
 impl Display for Reply {
     /// Whole lines, the last one ended too.
@@ -38,6 +38,7 @@ fn leaf(f: &mut Formatter<'_>, answer: &Answer) -> Result {
                 write!(f, " {}:{}:{a:x}:{b:x}:{c:x}:{d:x}", merged.number, merged.size)?;
             }
         }
+        Answer::Name(name) => write!(f, " {} {}", name.len(), Bytes(name))?,
         Answer::Chunks(_) => {}
     }
     writeln!(f)

@@ -58,6 +58,34 @@ fn with_lines_fit_the_call_after_them() {
     );
     assert_eq!(message("with areas 1\n"), "line 1: the text ends after `with`, without a call");
     assert_eq!(message("# \nwith count g 1\nmerge a 0 0 -\n"), "line 2: the call has no count `g`");
+    assert_eq!(
+        message("with offsets 0\nname a 0 0 0 0 0 0 0 0 .\n"),
+        "line 1: the call that follows has no offsets"
+    );
+    assert_eq!(
+        message("with entry_offsets 0\ncut a 0 0000000000000000 0000000000000000\n"),
+        "line 1: the call that follows has no entry_offsets"
+    );
+    assert_eq!(
+        message("with name_offsets 0\nname a 1 0 0 0 0 0 0 0 . 61\n"),
+        "line 1: the line ends where an offset is expected"
+    );
+    assert_eq!(
+        message("with len offsets 1\nname a 0 0 0 0 0 0 0 0 .\n"),
+        "line 1: the call has no table `offsets`"
+    );
+}
+
+#[test]
+fn a_build_has_no_tables_of_names() {
+    let text = "chunks a 0 0 0 0 0 0\no - - - - - -\nlen name_offsets 1\nend\n";
+    assert_eq!(message(text), "line 3: the call has no table `name_offsets`");
+}
+
+#[test]
+fn a_name_has_the_length_that_is_said() {
+    let error = read_replies("name a 2 61\n").expect_err("it has one byte").to_string();
+    assert_eq!(error, "line 1: a name of 1 bytes isn't one of 2");
 }
 
 #[test]
@@ -77,6 +105,7 @@ fn a_long_word_is_shortened_wherever_it_stands() {
         format!("filter a {long}\n"),
         format!("merge a 0 0 {long}\n"),
         format!("capture a 0 0 {long}\n"),
+        format!("name a 0 0 0 {long}\n"),
         format!("with {long}\nmerge a 0 0 -\n"),
         format!("with len {long} 0\nmerge a 0 0 -\n"),
         format!("with count {long} 0\nmerge a 0 0 -\n"),

@@ -16,6 +16,15 @@ merge absent 0 0 -
 with len dep_next 4
 with areas 3 2
 capture chain 3 2 1 0 3 7 3 1 2 0 1 0 2 0
+name plain 1 0 0 0 0 0 0 0 . 61
+with name_offsets 1 1 3
+with entry_offsets 4294967295 0
+with len name_offsets 2
+with len entry_offsets 3
+with count k 65536
+with count e 257
+with areas 99
+name damaged 2 1 4294967295 1 1 0 0 8000000000000000 3031ff 61 c3a9 .
 chunks whole 2 1 2 1 1 7
 o - 4044000000000000 - - 2 0
 m 3 40 3 0 ff 1 0 0 0 1 617070
@@ -43,6 +52,9 @@ cut some 2 403e000000000000 403e000000000000 30 30
 merge joins 1:0:0:0:0:0 1:105:3:0:0:8000000000000000
 merge absent
 capture chain 100
+name plain 1 61
+name nothing 0 .
+name damaged refused 1
 chunks whole 1
 c 7 0 0 4044000000000000 40 1 0 0 0 0
 m 8 0
@@ -71,7 +83,7 @@ fn empty_lines_and_comments_stand_between_cases() {
 #[test]
 fn damage_changes_the_tables_and_not_the_text() {
     let cases = read_cases(CASES).expect("the cases can be read");
-    let text::Question::Chunks(chunks) = &cases[6].question else {
+    let text::Question::Chunks(chunks) = &cases[8].question else {
         panic!("the last case is a build");
     };
     let tables = tables::of_chunks(chunks);
@@ -82,4 +94,30 @@ fn damage_changes_the_tables_and_not_the_text() {
     assert_eq!(tables.dep_module, [u32::MAX, 1]);
     assert_eq!(tables.group_lengths, [1, 1, 1, 1, 1, 1, 1, 1, 0]);
     assert_eq!(tables.areas, [2, 2, 2, 1, 2, 2, 7, 70]);
+}
+
+#[test]
+fn damage_changes_the_tables_of_names() {
+    let cases = read_cases(CASES).expect("the cases can be read");
+    let text::Question::Name(name) = &cases[7].question else {
+        panic!("the case before the last is a name");
+    };
+    let tables = tables::of_name(name);
+    assert_eq!((tables.k, tables.e, tables.number, tables.area), (65_536, 257, u32::MAX, 99));
+    assert_eq!((tables.group_names, tables.group_offsets), (vec![0x61, 0xc3, 0xa9], vec![1, 1]));
+    assert_eq!((tables.entry_names, tables.entry_offsets), (vec![], vec![u32::MAX, 0, 0]));
+    assert_eq!(tables.hash, [0x30, 0x31, 0xff]);
+}
+
+#[test]
+fn offsets_that_leave_bytes_out_make_other_names() {
+    let text =
+        "with name_offsets 1 2 3\nwith entry_offsets 0 0\nname a 2 1 0 1 1 0 0 0 . 6162 63 64\n";
+    let cases = read_cases(text).expect("the case can be read");
+    let text::Question::Name(name) = tables::effective(&cases[0].question) else {
+        panic!("it stays a name");
+    };
+    assert_eq!(name.group_names, [b"b", b"c"]);
+    assert_eq!(name.entry_names, [b""]);
+    assert!(name.damage.is_none());
 }

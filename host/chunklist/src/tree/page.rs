@@ -4,9 +4,7 @@ mod chunk;
 mod escape;
 mod head;
 
-use text::ChunkList;
-
-use super::{HostReading, Shown, TreeBuild, why};
+use super::{HostReading, NamedList, Shown, TreeBuild, why};
 use chunk::Page;
 use escape::escaped;
 
@@ -16,7 +14,7 @@ const SCRIPT: &str = include_str!("page/page.js");
 /// The page of a list.
 pub fn page(
     build: &TreeBuild,
-    list: &ChunkList,
+    list: &NamedList,
     reading: &HostReading,
     window: Option<u64>,
 ) -> String {

@@ -6,6 +6,9 @@ use super::{Shown, ShownChunk, shown::counted};
 const WINDOW_CELLS: u64 = 32;
 const PAST_CELLS: u64 = 16;
 
+/// How wide the column of names gets. A longer name has a line to itself.
+const NAME_CELLS: usize = 40;
+
 /// What makes a line stand out in a terminal that has colours, and what ends it.
 const BOLD_RED: &str = "\x1b[1;31m";
 const PLAIN: &str = "\x1b[0m";
@@ -46,7 +49,7 @@ impl Widths {
         Self {
             number: widest("chunk", &|chunk| chunk.number.to_string().len()),
             label: widest("group", &|chunk| chunk.label.chars().count()),
-            name: widest("name", &|chunk| chunk.name.chars().count()),
+            name: widest("name", &|chunk| name_cells(chunk).unwrap_or(0)),
             size: widest("bytes", &|chunk| chunk.size.to_string().len()),
             share: widest("window", &|chunk| share(chunk.size, window).len()),
             past: widest("", &|chunk| past(chunk.size, window).len()),
@@ -73,8 +76,23 @@ fn chunk_line(shown: &Shown, chunk: &ShownChunk, window: u64, widths: &Widths) -
     let past = format!("{:<w$}", past(size, window), w = widths.past);
     let modules = format!("{:>w$}", chunk.modules.len(), w = widths.modules);
     let entries = shown.entry_names(&chunk.entries);
-    let name = format!("{:<w$}", chunk.name, w = widths.name);
+    let name = name(chunk, widths);
     format!("{mark} {first}  {name}  {numbers}  {bar}{past}  {modules}  {entries}")
+}
+
+/// How many cells a name takes in its column, unless it has a line to itself.
+fn name_cells(chunk: &ShownChunk) -> Option<usize> {
+    let cells = chunk.name.chars().count();
+    (cells <= NAME_CELLS).then_some(cells)
+}
+
+/// The name, filled up to where the next column begins, which may be on the next line.
+fn name(chunk: &ShownChunk, widths: &Widths) -> String {
+    let Widths { number, label, name, .. } = *widths;
+    match name_cells(chunk) {
+        Some(_) => format!("{:<name$}", chunk.name),
+        None => format!("{}\n   {:number$}  {:label$}  {:name$}", chunk.name, "", "", ""),
+    }
 }
 
 /// The part of the window that a size takes, in hundredths, rounded up so that 100% is all of it.

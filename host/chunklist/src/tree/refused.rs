@@ -4,22 +4,61 @@
 use std::collections::BTreeMap;
 
 use gentropi::{Refusal, limits};
+use text::Quoted;
 
 use super::TreeBuild;
 
+/// What the library refused, and with which number.
+#[derive(Debug, Clone, Copy, PartialEq, Eq)]
+pub enum Refused {
+    /// The build, with this number.
+    Build(u32),
+    /// The name of a chunk.
+    Name {
+        /// The chunk's number in the list.
+        chunk: u32,
+        /// The number of the refusal.
+        number: u32,
+    },
+}
+
 /// The refusal in words, and each place of the tree that it is about.
-pub fn refused(build: &TreeBuild, number: u32) -> String {
+pub fn refused(build: &TreeBuild, refused: Refused) -> String {
+    let (what, number, places) = match refused {
+        Refused::Build(number) => ("the build".into(), number, of_build(build, number)),
+        Refused::Name { chunk, number } => {
+            (format!("the name of chunk {chunk}"), number, of_name(build, number))
+        }
+    };
     let meaning = Refusal::check(number).map_or_else(Refusal::meaning, |()| "nothing is wrong");
-    let places = match number {
+    let places: String = places.iter().map(|place| format!("\n  {place}")).collect();
+    format!("the library refuses {what} with {number}: {meaning}{places}")
+}
+
+fn of_build(build: &TreeBuild, number: u32) -> Vec<String> {
+    match number {
         1 => counts(build),
         3 => long_ids(build),
         4 => shared_ids(build),
         6 => total(build),
         11 => vec![format!("count_on_entry is {}", build.tree.count_on_entry)],
         _ => Vec::new(),
-    };
-    let places: String = places.iter().map(|place| format!("\n  {place}")).collect();
-    format!("the library refuses the build with {number}: {meaning}{places}")
+    }
+}
+
+/// No tree that is read leads here: the host would have to lay out or number names wrongly.
+fn of_name(build: &TreeBuild, number: u32) -> Vec<String> {
+    match number {
+        1 => counts(build),
+        15 => falling_name(build).into_iter().collect(),
+        _ => Vec::new(),
+    }
+}
+
+/// The first name that doesn't come after the one before it.
+fn falling_name(build: &TreeBuild) -> Option<String> {
+    let pair = build.numbered.names.windows(2).find(|pair| pair[0] >= pair[1])?;
+    Some(format!("`{}` before `{}`", Quoted(&pair[0]), Quoted(&pair[1])))
 }
 
 /// The counts that are above their limits.

@@ -1,8 +1,8 @@
 //! A chunk list by names, as lists, pictures and pages show it.
 
-use text::{ChunkList, tree::TreeModule};
+use text::tree::TreeModule;
 
-use super::TreeBuild;
+use super::{NamedList, TreeBuild};
 
 /// A chunk list by names. Nothing of it depends on load numbers.
 #[derive(Debug, Clone, PartialEq)]
@@ -28,7 +28,9 @@ pub struct ShownChunk {
     pub group: usize,
     /// The label of its group.
     pub label: String,
-    /// Its name.
+    /// The name that its group gives its modules.
+    pub group_name: String,
+    /// Its own name, as the library gave it.
     pub name: String,
     /// Its size as the library gave it.
     pub size: u64,
@@ -55,13 +57,14 @@ pub struct ShownModule {
 
 impl Shown {
     /// The list of a build by names.
-    pub fn new(build: &TreeBuild, list: &ChunkList) -> Self {
+    pub fn new(build: &TreeBuild, list: &NamedList) -> Self {
         let tree = &build.tree;
-        let chunk = |chunk: &text::Chunk| ShownChunk {
+        let chunk = |(chunk, name): (&text::Chunk, &String)| ShownChunk {
             number: chunk.chunk,
             group: chunk.group as usize,
             label: tree.groups[chunk.group as usize].label.clone(),
-            name: build.numbered.names[chunk.name as usize].clone(),
+            group_name: build.numbered.names[chunk.name as usize].clone(),
+            name: name.clone(),
             size: chunk.size as u64,
             entries: entries(chunk.bits),
             modules: chunk.modules.iter().map(|load| module(build, *load as usize)).collect(),
@@ -73,7 +76,7 @@ impl Shown {
             title: build.title.clone(),
             entries: tree.entries.iter().map(|entry| entry.name.clone()).collect(),
             groups: tree.groups.iter().map(|group| group.label.clone()).collect(),
-            chunks: list.chunks.iter().map(chunk).collect(),
+            chunks: list.chunks.iter().zip(&list.names).map(chunk).collect(),
             left: left.into_iter().map(|load| module(build, load)).collect(),
         }
     }
@@ -119,7 +122,7 @@ fn states(module: &TreeModule) -> Vec<&'static str> {
 }
 
 /// The entries of a set of bits.
-fn entries(bits: [u64; 4]) -> Vec<usize> {
+pub fn entries(bits: [u64; 4]) -> Vec<usize> {
     (0..256).filter(|entry| bits[entry / 64] >> (entry % 64) & 1 == 1).collect()
 }
 

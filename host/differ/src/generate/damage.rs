@@ -2,7 +2,7 @@
 
 use text::{Capture, Count, Cut, Filter, Merge, Question, Sim, Table};
 
-use super::{damage_build, numbers::TOTAL, records::index};
+use super::{damage_build, damage_name, numbers::TOTAL, records::index};
 use crate::rng::Rng;
 
 /// Damages a good question in one to three ways. Hands back the lowest number among them, or
@@ -26,6 +26,7 @@ pub fn tested(question: &Question) -> &'static [u32] {
         Question::Capture(_) => &[1, 2, 7, 9, 10, 12, 13],
         Question::Filter(_) => &[6, 8],
         Question::Merge(_) => &[1, 2, 6, 8, 9, 12],
+        Question::Name(_) => &[1, 2, 3, 10, 12, 14, 15, 16],
         Question::Chunks(_) => &[1, 2, 3, 4, 5, 6, 7, 8, 9, 10, 11, 12, 13],
     }
 }
@@ -38,6 +39,7 @@ fn plant(rng: &mut Rng, question: &mut Question, number: u32) -> bool {
         Question::Capture(capture) => plant_capture(rng, capture, number),
         Question::Filter(filter) => plant_filter(rng, filter, number),
         Question::Merge(merge) => plant_merge(rng, merge, number),
+        Question::Name(name) => damage_name::plant(rng, name, number),
         Question::Chunks(chunks) => damage_build::plant(rng, chunks, number),
     }
 }
@@ -109,18 +111,24 @@ pub fn bad_offsets(rng: &mut Rng, mut ids: Vec<&mut Vec<u8>>) -> Option<Vec<u32>
         ids[at].resize(1_025 + rng.at(2), b'z');
         return None;
     }
+    let lengths: Vec<usize> = ids.iter().map(|id| id.len()).collect();
+    Some(bad_offsets_of(rng, &lengths))
+}
+
+/// Offsets of ids or names of these lengths that fall or pass the end.
+pub fn bad_offsets_of(rng: &mut Rng, lengths: &[usize]) -> Vec<u32> {
     let mut offsets = vec![0];
-    for id in &ids {
-        offsets.push(offsets[offsets.len() - 1] + index(id.len()));
+    for length in lengths {
+        offsets.push(offsets[offsets.len() - 1] + index(*length));
     }
-    let end = offsets[ids.len()];
-    let at = rng.at(ids.len() + 1);
+    let end = offsets[lengths.len()];
+    let at = rng.at(lengths.len() + 1);
     if at > 0 && offsets[at - 1] > 0 && rng.one_in(2) {
         offsets[at] = offsets[at - 1] - 1;
     } else {
         offsets[at] = rng.pick(&[end + 1, end + 1, u32::MAX]);
     }
-    Some(offsets)
+    offsets
 }
 
 fn plant_capture(rng: &mut Rng, capture: &mut Capture, number: u32) -> bool {

@@ -1,9 +1,9 @@
-//! Changes that the tables of refusals allow: areas exactly full, other ends of the id slice, more
-//! entries or names than are used.
+//! Changes that the tables of refusals allow: areas exactly full, other ends of the slice of ids or
+//! names, more entries or names than are used.
 
-use text::{Build, Capture, Chunks, Count, Cut, Damage, Merge, Question, tables};
+use text::{Build, Capture, Chunks, Count, Cut, Damage, Merge, Name, Question, tables};
 
-use super::records::index;
+use super::{ids::any_bytes, records::index};
 use crate::rng::Rng;
 
 /// Changes a good question without spoiling it.
@@ -12,6 +12,7 @@ pub fn adorn(rng: &mut Rng, question: &mut Question) {
         Question::Cut(cut) => adorn_cut(rng, cut),
         Question::Merge(merge) => adorn_merge(rng, merge),
         Question::Capture(capture) => adorn_capture(capture),
+        Question::Name(name) => adorn_name(rng, name),
         Question::Chunks(chunks) => adorn_build(rng, chunks),
         Question::Sim(_) | Question::Filter(_) => {}
     }
@@ -29,6 +30,32 @@ fn adorn_merge(rng: &mut Rng, merge: &mut Merge) {
 
 fn adorn_capture(capture: &mut Capture) {
     capture.damage.areas = Some(vec![capture.flags.len(); 2]);
+}
+
+fn adorn_name(rng: &mut Rng, name: &mut Name) {
+    let needed = name.group_names[name.number as usize].len().max(100);
+    name.damage.areas = Some(vec![needed]);
+    name.damage.name_offsets = Some(surrounded(rng, &mut name.group_names));
+    if rng.one_in(2) {
+        name.damage.entry_offsets = Some(surrounded(rng, &mut name.entry_names));
+    }
+}
+
+/// Puts bytes that belong to no name, of any kind, at both ends of the slice; the offsets of the names
+/// that were there.
+fn surrounded(rng: &mut Rng, names: &mut [Vec<u8>]) -> Vec<u32> {
+    let before = any_bytes(rng, 4);
+    let mut offsets = vec![index(if names.is_empty() { 0 } else { before.len() })];
+    for name in &*names {
+        offsets.push(offsets[offsets.len() - 1] + index(name.len()));
+    }
+    if let Some(first) = names.first_mut() {
+        first.splice(0..0, before);
+    }
+    if let Some(last) = names.last_mut() {
+        last.extend(any_bytes(rng, 4));
+    }
+    offsets
 }
 
 fn adorn_build(rng: &mut Rng, chunks: &mut Chunks) {

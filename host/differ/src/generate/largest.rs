@@ -1,6 +1,6 @@
 //! The largest leaf calls that are accepted.
 
-use text::{Call, Capture, Cut, Damage, Filter, Merge, Question, Record, Sim, Subgroup};
+use text::{Call, Capture, Cut, Damage, Filter, Merge, Name, Question, Record, Sim, Subgroup};
 
 use super::{largest_build, merge, numbers::TOTAL, records::index};
 use crate::rng::Rng;
@@ -8,6 +8,8 @@ use crate::rng::Rng;
 /// The limits of the counts.
 pub const MODULES: usize = 4_096;
 pub const RECORDS: usize = 65_535;
+const NAMES: usize = 65_535;
+const ENTRIES: usize = 256;
 
 /// The largest questions of a call.
 pub fn largest(call: Call, rng: &mut Rng) -> Vec<Question> {
@@ -17,6 +19,7 @@ pub fn largest(call: Call, rng: &mut Rng) -> Vec<Question> {
         Call::Capture => capture(rng).into_iter().map(Question::Capture).collect(),
         Call::Filter => vec![filter(TOTAL), filter(TOTAL - 1)],
         Call::Merge => merge_questions(rng).into_iter().map(Question::Merge).collect(),
+        Call::Name => names().into_iter().map(|name| Question::Name(Box::new(name))).collect(),
         Call::Chunks => largest_build::largest(rng),
     }
 }
@@ -98,4 +101,20 @@ fn merge_questions(rng: &mut Rng) -> Vec<Merge> {
         questions.push(Merge { entries: 256, threshold, subgroups, damage: Damage::default() });
     }
     questions
+}
+
+/// 65,535 names and 256 entries: all of them short, and one of a million bytes, shown whole or cut.
+fn names() -> Vec<Name> {
+    let short = |number: usize| format!("{number:05}").into_bytes();
+    let long = || [short(NAMES - 1), vec![b'z'; 1_000_000]].concat();
+    let name = |last: Vec<u8>, entries_aware| Name {
+        group_names: (0..NAMES - 1).map(short).chain([last]).collect(),
+        entry_names: (0..ENTRIES).map(short).collect(),
+        number: index(NAMES - 1),
+        entries_aware,
+        bits: [u64::MAX; 4],
+        hash: b"01234567".to_vec(),
+        damage: Damage::default(),
+    };
+    vec![name(short(NAMES - 1), true), name(long(), false), name(long(), true)]
 }

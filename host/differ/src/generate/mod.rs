@@ -7,6 +7,7 @@ pub mod capture;
 pub mod cut;
 pub mod damage;
 pub mod damage_build;
+pub mod damage_name;
 pub mod figures;
 pub mod filter;
 pub mod harmless;
@@ -17,6 +18,8 @@ pub mod large_records;
 pub mod largest;
 pub mod largest_build;
 pub mod merge;
+pub mod name;
+pub mod names;
 pub mod numbers;
 pub mod records;
 pub mod renumbered;
@@ -30,7 +33,7 @@ use crate::rng::Rng;
 /// Takes one question after another.
 pub type Visit<'a> = &'a mut dyn FnMut(Question);
 
-/// A random question of a call, which document 01 accepts.
+/// A random question of a call, which the papers accept.
 pub fn random(call: Call, rng: &mut Rng) -> Question {
     let mut question = plain(call, rng);
     if rng.one_in(6) {
@@ -47,6 +50,7 @@ pub fn plain(call: Call, rng: &mut Rng) -> Question {
         Call::Capture => Question::Capture(capture::random(rng)),
         Call::Filter => Question::Filter(filter::random(rng)),
         Call::Merge => Question::Merge(merge::random(rng)),
+        Call::Name => Question::Name(Box::new(name::random(rng))),
         Call::Chunks => builds::question(builds::random(rng)),
     }
 }
@@ -59,6 +63,7 @@ pub fn exhaustive(call: Call, visit: Visit<'_>) {
         Call::Capture => capture::exhaustive(visit),
         Call::Filter => filter::exhaustive(visit),
         Call::Merge => merge::exhaustive(visit),
+        Call::Name => name::exhaustive(visit),
         Call::Chunks => builds::exhaustive(visit),
     }
 }

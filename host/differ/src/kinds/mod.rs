@@ -5,6 +5,7 @@ mod capture;
 mod cut;
 mod filter;
 mod merge;
+mod name;
 mod similarity;
 
 use std::collections::BTreeMap;
@@ -23,6 +24,11 @@ pub fn of(question: &Question, answer: &Answer) -> Kinds {
         Call::Similarity | Call::Filter => {}
         Call::Cut => kinds.push(("offsets that leave out bytes", damage.offsets.is_some())),
         Call::Capture => kinds.push(("areas exactly full", damage.areas.is_some())),
+        Call::Name => kinds.extend([
+            ("areas exactly full", damage.areas.is_some()),
+            ("bytes that belong to no group's name", damage.name_offsets.is_some()),
+            ("bytes that belong to no entry's name", damage.entry_offsets.is_some()),
+        ]),
         Call::Merge | Call::Chunks => kinds.extend([
             ("areas exactly full", damage.areas.is_some()),
             (
@@ -42,6 +48,7 @@ fn of_effective(question: &Question, answer: &Answer) -> Kinds {
         (Question::Capture(capture), Answer::Capture(marks)) => capture::kinds(capture, marks),
         (Question::Filter(filter), Answer::Filter(passes)) => filter::kinds(filter, *passes),
         (Question::Merge(merge), Answer::Merge(_)) => merge::kinds(merge),
+        (Question::Name(name), Answer::Name(answer)) => name::kinds(name, answer),
         (Question::Chunks(chunks), Answer::Chunks(list)) => build::kinds(&chunks.build, list),
         _ => Vec::new(),
     }

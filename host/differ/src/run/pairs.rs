@@ -108,7 +108,7 @@ mod tests {
 
     /// How many of a few pairs differ, if something is done to each second build that has a chunk.
     fn differ(change: fn(&mut Build, usize)) -> (u64, u64) {
-        let plan = Plan { seed: 1, cases: 0, builds: 0, largest: 0, largest_p: 0 };
+        let plan = Plan { seed: 1, only: None, cases: 0, builds: 0, largest: 0, largest_p: 0 };
         let mut run = Run::new(plan);
         for case in 0..400 {
             let (build, list, mut rng) = drawn(case);

@@ -129,6 +129,37 @@ static void chunks(void) {
     CHECK(memcmp(b.scratch + words, before.scratch + words, sizeof b.scratch - words * sizeof *b.scratch) == 0);
 }
 
+/* Two names of groups, "ui" and one of 101 bytes; entries "a", "" and "b". */
+static uint32_t named(uint32_t number, bool aware, uint64_t entries, size_t hash, uint8_t *name, size_t area, size_t *length) {
+    static const uint8_t digits[] = { '0', '1', '2', '3', '4', '5', '6', '7', '8' }, entry_names[] = { 'a', 'b' };
+    static const uint32_t group_offsets[] = { 0, 2, 103 }, entry_offsets[] = { 0, 1, 1, 2 };
+    uint8_t group_names[103];
+    memset(group_names, 'v', sizeof group_names);
+    memcpy(group_names, "ui", 2);
+    return gentropi_name(
+        2, 3, group_names, sizeof group_names, group_offsets, 3, entry_names, 2, entry_offsets, 4,
+        number, aware, entries, 0, 0, 0, digits, hash, name, area, length);
+}
+
+static void name(void) {
+    uint8_t area[120], before[120];
+    size_t length = 99, shortest = gentropi_name_bytes(2), longest = gentropi_name_bytes(101);
+    memset(area, 9, sizeof area);
+    memcpy(before, area, sizeof area);
+    CHECK(shortest == 100 && longest == 101);
+    CHECK(named(2, true, 7, 8, area, shortest, &length) == GENTROPI_NUMBER);
+    CHECK(named(0, true, 7, 8, area, shortest - 1, &length) == GENTROPI_AREA);
+    CHECK(named(1, true, 7, 8, area, longest - 1, &length) == GENTROPI_AREA);
+    CHECK(named(0, true, 7, 9, area, shortest, &length) == GENTROPI_HASH);
+    CHECK(length == 99 && memcmp(area, before, sizeof area) == 0);
+    CHECK(named(0, true, 7, 8, area, shortest, &length) == GENTROPI_ACCEPTED);
+    CHECK(length == 6 && memcmp(area, "ui~a~b", 6) == 0 && memcmp(area + 6, before + 6, sizeof area - 6) == 0);
+    CHECK(named(1, false, 7, 8, area, longest, &length) == GENTROPI_ACCEPTED);
+    CHECK(length == 101 && area[100] == 'v' && area[101] == 9);
+    CHECK(named(1, true, 7, GENTROPI_HASH_BYTES, area, longest, &length) == GENTROPI_ACCEPTED);
+    CHECK(length == GENTROPI_CHUNK_NAME_BYTES && area[90] == 'v' && memcmp(area + 91, "~01234567", 9) == 0);
+}
+
 int main(void) {
     similarity();
     cut();
@@ -136,6 +167,7 @@ int main(void) {
     capture();
     merge();
     chunks();
+    name();
     printf("%d failures\n", failures);
     return failures != 0;
 }

@@ -1,7 +1,9 @@
 //! Stand-in for `rolldown_utils`: bit sets, ordered maps and sets, and two functions for names.
 //!
 //! Assumes: two bit sets of one build are equal, and hash alike, exactly when they hold the same
-//! bits; `union` adds the other's bits; `index_of_one` lists the bits that are set, upwards.
+//! bits; `union` adds the other's bits; `index_of_one` lists the bits that are set, upwards. The hash
+//! of a long name is the one that is handed in, whatever the name is, or else another one than the
+//! crate's.
 #![forbid(unsafe_code)]
 
 mod bit_set;

@@ -1,7 +1,7 @@
 //! The question without damage that an accepted damaged question amounts to.
 
-use super::{BuildTables, of_capture, of_chunks, of_cut, of_merge};
-use crate::{Build, Capture, Chunks, Cut, Damage, Merge, Module, Question, Record, Subgroup};
+use super::{BuildTables, of_capture, of_chunks, of_cut, of_merge, of_name};
+use crate::{Build, Capture, Chunks, Cut, Damage, Merge, Module, Name, Question, Record, Subgroup};
 
 /// The same question with the tables that are really handed in, in the order of their counts,
 /// and without area lengths. Only for a question that is accepted: a damaged table can't be told
@@ -14,6 +14,9 @@ pub fn effective(question: &Question) -> Question {
         }
         Question::Capture(capture) if !capture.damage.is_none() => {
             Question::Capture(effective_capture(capture))
+        }
+        Question::Name(name) if !name.damage.is_none() => {
+            Question::Name(Box::new(effective_name(name)))
         }
         Question::Chunks(chunks) if !chunks.damage.is_none() => {
             let build = effective_build(&of_chunks(chunks));
@@ -50,6 +53,19 @@ fn effective_capture(capture: &Capture) -> Capture {
     }
 }
 
+fn effective_name(name: &Name) -> Name {
+    let tables = of_name(name);
+    Name {
+        group_names: ids(&tables.group_names, &tables.group_offsets),
+        entry_names: ids(&tables.entry_names, &tables.entry_offsets),
+        number: tables.number,
+        entries_aware: tables.entries_aware,
+        bits: tables.bits,
+        hash: tables.hash,
+        damage: Damage::default(),
+    }
+}
+
 fn effective_build(tables: &BuildTables) -> Build {
     let ids = ids(&tables.ids, &tables.offsets);
     let module = |(at, id): (usize, Vec<u8>)| Module {
@@ -77,7 +93,7 @@ fn effective_build(tables: &BuildTables) -> Build {
     }
 }
 
-/// The ids that offsets cut out of the slice.
+/// The ids or names that offsets cut out of the slice.
 fn ids(slice: &[u8], offsets: &[u32]) -> Vec<Vec<u8>> {
     offsets.windows(2).map(|pair| slice[pair[0] as usize..pair[1] as usize].to_vec()).collect()
 }

@@ -12,6 +12,9 @@ use crate::tree::{
 /// The mark of what the library doesn't answer for.
 pub const NOT_PROVED: &str = "<span class=\"unproved\">host's reading, not proved</span>";
 
+/// How the name of an entries-aware chunk goes on.
+const AWARE_NAME: &str = ", then its entries; above 100 bytes it is cut and ends in a hash";
+
 /// What a page is made from.
 pub struct Page<'a> {
     pub build: &'a TreeBuild,
@@ -45,7 +48,7 @@ impl Page<'_> {
              data-entries=\"{}\" data-size=\"{}\">\n",
             chunk.number,
             chunk.group,
-            escaped(&chunk.name),
+            escaped(&chunk.group_name),
             entries.join(" "),
             chunk.size
         );
@@ -134,13 +137,14 @@ impl Page<'_> {
             options_in_force(&self.build.tree, group).iter().map(option).collect();
         format!(
             "<details{}><summary>why</summary>\n\
-             <p>Group {} (line {}) matches {tests}; the name is <code>{}</code>.</p>\n\
+             <p>Group {} (line {}) matches {tests}; the name is <code>{}</code>{}.</p>\n\
              <table class=\"options\">\n<tr><th>option in force</th><th>value</th><th>from</th></tr>\n\
              {options}</table>\n<div class=\"reading\"><p>{NOT_PROVED}</p>\n{}{}</div></details>\n",
             if self.is_above(chunk) { " open" } else { "" },
             escaped(&group.label),
             group.line,
             escaped(&group.name.text),
+            if group.entries_aware == Some(true) { AWARE_NAME } else { "" },
             items(&self.why.of_chunk(chunk)),
             before(&self.why.before_chunk(chunk))
         )

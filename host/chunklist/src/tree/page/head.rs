@@ -57,12 +57,12 @@ fn filters(page: &Page<'_>) -> String {
         let pairs = names.iter().enumerate();
         pairs.map(|(number, name)| (number.to_string(), name.clone())).collect::<Vec<_>>()
     };
-    let names: BTreeSet<&String> = shown.chunks.iter().map(|chunk| &chunk.name).collect();
+    let names: BTreeSet<&String> = shown.chunks.iter().map(|chunk| &chunk.group_name).collect();
     let names: Vec<_> = names.into_iter().map(|name| (name.clone(), name.clone())).collect();
     let mut html = String::from("<form class=\"filters\" hidden>\n");
-    html.push_str(&select("group", &numbered(&shown.groups)));
-    html.push_str(&select("name", &names));
-    html.push_str(&select("entry", &numbered(&shown.entries)));
+    html.push_str(&select("group", "group", &numbered(&shown.groups)));
+    html.push_str(&select("name", "group name", &names));
+    html.push_str(&select("entry", "entry", &numbered(&shown.entries)));
     if page.window.is_some() {
         html.push_str(
             "<label><input type=\"checkbox\" id=\"above\"> only above the window</label>\n",
@@ -71,11 +71,11 @@ fn filters(page: &Page<'_>) -> String {
     html + "<button type=\"reset\">show all</button>\n</form>\n"
 }
 
-fn select(id: &str, options: &[(String, String)]) -> String {
+fn select(id: &str, label: &str, options: &[(String, String)]) -> String {
     let option = |(value, name): &(String, String)| {
         format!("<option value=\"{}\">{}</option>", escaped(value), escaped(name))
     };
     let options: String = options.iter().map(option).collect();
     let all = "<option value=\"\" data-all>all</option>";
-    format!("<label>{id} <select id=\"{id}\">{all}{options}</select></label>\n")
+    format!("<label>{label} <select id=\"{id}\">{all}{options}</select></label>\n")
 }
