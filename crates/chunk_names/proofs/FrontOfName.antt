@@ -2,17 +2,15 @@
 use Prim.Native.Nat.{ℕ, _+_, _-_, _≤_, _<_}
 use mathlib.Core.Bool.{Bool, true, false}
 use mathlib.Core.List.{List, [], _∷_, _++_, append-nil, append-assoc}
-use mathlib.Core.Path.{_≡_, refl, sym, ap, ap₂, _∙_}
+use mathlib.Core.Path.{_≡_, refl, sym, ap, _∙_}
 use native.Mathlib.Nat.{zero-add}
 use native.Mathlib.Omega.{arith}
 use borrow.Author.Tests.{lt-ltb, le-ltb}
-use lib.Dec.{ltb}
-use lib.ListN.{length, getD, take, drop, length-take, drop-of-length-le}
+use lib.ListN.{length, take, drop, length-take, drop-of-length-le}
 use lib.Seq.{take-all, take-at, take-take, getD-take}
 use Rattle.bitset.specs.declared.entries.BitSet.{BitSet}
 use Rattle.utf8.specs.Start.{startBack}
 use Rattle.utf8.proofs.Starts.{start-back-le, start-back-same}
-use Rattle.lists.specs.Area.{placed}
 use Rattle.chunk_names.specs.Append.{fitting, Appended}
 use Rattle.chunk_names.specs.Name.{separator, longestName, cutByte, shortened, entriesAwareName, entryParts, fullName, nameOf}
 

@@ -1,6 +1,6 @@
 -- Refusal 16: the bytes of a hash from byte i on, as the loop over them meets them, and what a hash that passes is.
 use Prim.Native.Nat.{ℕ, zero, suc, _+_, _≤_, _<_}
-use mathlib.Core.Bool.{true, false, _||_}
+use mathlib.Core.Bool.{true, false}
 use mathlib.Core.List.{List, [], _∷_}
 use mathlib.Core.Path.{_≡_}
 use native.Mathlib.Nat.{le-of-suc-le-suc}

@@ -1,22 +1,22 @@
 -- The call: the first condition that applies gives the number and leaves the area; a call that none applies to writes the name.
-use Prim.Native.Nat.{ℕ, _≤_, _<_}
+use Prim.Native.Nat.{ℕ, _≤_}
 use mathlib.Core.Bool.{true}
-use mathlib.Core.List.{List, [], _++_}
+use mathlib.Core.List.{List, []}
 use mathlib.Core.Path.{_≡_, refl, sym, ap, _∙_}
 use native.Mathlib.Omega.{arith}
 use lib.ListN.{length}
-use Rattle.refusal.specs.Outcome.{Outcome, refused, accepted, Test, outcome, firstNumber, ascending, Applies}
+use Rattle.refusal.specs.Outcome.{refused, accepted, Test, outcome, firstNumber, ascending, Applies}
 use Rattle.refusal.proofs.Calls.{refuses-call, accepts-call}
-use Rattle.refusal.proofs.Ladder.{numbered, refuses, past}
+use Rattle.refusal.proofs.Ladder.{refuses, past}
 use Rattle.refusal.proofs.Lowest.{lowest}
 use Rattle.chunk_names.specs.Given.{Given, entryNames, groupName, chunkName}
 use Rattle.chunk_names.specs.Name.{nameOf}
 use Rattle.chunk_names.specs.Append.{Appended}
 use Rattle.chunk_names.specs.Conditions.{tableTests, chunkTests}
-use Rattle.chunk_names.specs.Call.{nameTests, nameOutcome, written, NameCall}
+use Rattle.chunk_names.specs.Call.{nameTests, nameOutcome, NameCall}
 use Rattle.chunk_names.specs.declared.NameAnswer.the-variants.{Refused, Named}
 use Rattle.chunk_names.proofs.Appending.{whole-length, whole-bytes}
-use Rattle.chunk_names.proofs.ChunkTests.{Passed, passed}
+use Rattle.chunk_names.proofs.ChunkTests.{passed}
 use Rattle.chunk_names.proofs.HashBytes.{good-hash}
 use Rattle.chunk_names.proofs.NameLength.{name-fits}
 

@@ -1,11 +1,10 @@
 -- Refusals 1, 2 and 3 over the two tables of names, one after another, and what tables that pass are.
-use Prim.Native.Nat.{ℕ, _+_, _≤_, _<_}
-use mathlib.Core.Bool.{Bool, true, false, _||_, or-true}
-use mathlib.Core.List.{List}
+use Prim.Native.Nat.{_+_, _≤_, _<_}
+use mathlib.Core.Bool.{true, false, _||_, or-true}
 use mathlib.Core.Path.{_≡_}
 use native.Mathlib.Omega.{arith}
 use borrow.Author.Tests.{lt-ltb, le-ltb, eq-eqb, ne-eqb, ltb-false}
-use lib.Dec.{ltb, eqb}
+use lib.Dec.{ltb}
 use lib.ListN.{length}
 use Rattle.lists.proofs.Below.{neither}
 use Rattle.refusal.specs.Counts.{nameLimit, entryLimit, badLength}

@@ -4,7 +4,6 @@ use mathlib.Core.Bool.{Bool, true, false, _&&_}
 use mathlib.Core.List.{List, [], _∷_, _++_}
 use lib.ListN.{replicate}
 use Rattle.lists.specs.Same.{sameNumbers}
-use Rattle.bitset.specs.declared.entries.BitSet.{BitSet}
 use Rattle.chunk_names.specs.Name.{nameOf}
 
 -- whether the chunk is entries-aware, its group's name, the first two words of its entry bits, the entry names, and its name

@@ -1,8 +1,6 @@
 // The conditions that a name call tests, in their order.
 use crate::name::LONGEST_NAME;
 ghost use mathlib.Core.Path.{_≡_};
-ghost use Prim.Native.Nat.{_≤_, _<_};
-ghost use lib.ListN.{length};
 ghost use Rattle.refusal.specs.Outcome.{firstNumber};
 ghost use Rattle.name_tables.specs.Names.{NameTable};
 ghost use Rattle.chunk_names.specs.Conditions.{anyHigh, badHash, tableTests, chunkTests};

@@ -62,27 +62,11 @@ fn read_modules(
     }
 }
 
-fn wide(n: u32) -> usize {
-    n as usize
-}
-
-fn short(n: usize) -> u32 {
-    if n <= 4294967295 {
-        return n as u32;
-    }
-    4294967295
-}
-
 // Other offsets, if a line has them.
 fn spoil_offsets(with: &[u8], n: usize, offsets: &mut [u32; 4099])
     requires { ⌜ n ≤ 4097 ⌝ }
 {
-    let mut i = 0;
-    while i <= n {
-        let written = wide(offsets[i]);
-        offsets[i] = short(withlines::offset(with, i, written));
-        i = i + 1;
-    }
+    withlines::offsets::spoil(with, b"offsets", n + 1, offsets);
 }
 
 // Whether every line that spoils the call is one that it can have.

@@ -1,6 +1,8 @@
 // Lines that spoil a leaf call before it is handed over: `with offsets ..`, `with len TABLE LENGTH`, `with count COUNT VALUE`, `with areas ..`.
 // The text before a call is kept as it stands, and looked through for each value that a line of it may change.
+pub mod cases;
 pub mod lines;
+pub mod offsets;
 pub mod wordlist;
 
 use textform::numbers;
@@ -46,13 +48,6 @@ pub fn area(with: &[u8], place: usize, otherwise: usize) -> usize
     requires { ⌜ place ≤ 4097 ⌝ }
 {
     number(with, b"areas", b"", 2 + place, otherwise)
-}
-
-// The id offset at a place.
-pub fn offset(with: &[u8], place: usize, otherwise: usize) -> usize
-    requires { ⌜ place ≤ 4097 ⌝ }
-{
-    number(with, b"offsets", b"", 2 + place, otherwise)
 }
 
 // Whether a line has so many numbers after so many words, and nothing else.

@@ -1,8 +1,6 @@
 -- The public call meets its contract. Each refusal is the first test that applies; where none does, the name is written.
 use mathlib.Core.Path.{sym, _∙_}
-use native.Mathlib.Omega.{arith}
 use Rattle.name_tables.proofs.NamesFrom.{name-in-table}
-use Rattle.chunk_names.specs.Given.{Names, Given}
 use Rattle.chunk_names.proofs.Appending.{appended-as}
 use Rattle.chunk_names.proofs.TableTests.{passed as tables-passed}
 use Rattle.chunk_names.proofs.ChunkTests.{passed as chunk-passed}

@@ -1,8 +1,7 @@
 -- `chunk_names::append::append` meets its contract: the copied bytes stand at their place, and there are as many as there is room for.
-use Prim.Native.Nat.{_+_, _-_}
 use mathlib.Core.Path.{sym, _∙_}
 use native.Mathlib.Omega.{arith}
-use lib.ListN.{length, length-take, length-drop}
+use lib.ListN.{length-take, length-drop}
 use Rattle.chunk_names.proofs.Appending.{appended}
 use borrow.Author.Needs.{needs}
 use Rattle.chunk_names.proofs.append.append.Statement.{statement}

@@ -1,7 +1,6 @@
 -- `chunk_names::conditions::chunk_number` meets its contract: each return is one step of the row of tests.
 use Prim.Native.Nat.{_≤_, _<_}
-use mathlib.Core.List.{List}
-use mathlib.Core.Path.{sym, ap, subst, _∙_}
+use mathlib.Core.Path.{sym, subst, _∙_}
 use lib.ListN.{length}
 use Rattle.name_tables.proofs.NamesFrom.{name-in-table}
 use Rattle.chunk_names.proofs.ChunkTests.{unknown, area-short, group-long, groups-not-text, entries-not-text, not-ascending, hash-bad, none-bad}

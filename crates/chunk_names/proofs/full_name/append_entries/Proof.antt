@@ -3,7 +3,6 @@ use Prim.Native.Nat.{_≤_, _-_}
 use mathlib.Core.Path.{_≡_, sym, ap, _∙_}
 use native.Mathlib.Omega.{arith}
 use lib.ListN.{length}
-use borrow.Author.Needs.{needs}
 use Rattle.name_tables.specs.Names.{namesOf}
 use Rattle.ids.proofs.IdParts.{ids-length}
 use Rattle.chunk_names.specs.Append.{Appended}

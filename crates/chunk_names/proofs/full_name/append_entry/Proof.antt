@@ -1,6 +1,4 @@
 -- `chunk_names::full_name::append_entry` meets its contract: an entry whose bit the chunk has adds its name, any other nothing.
-use Prim.Native.Nat.{_<_}
-use mathlib.Core.List.{List, []}
 use mathlib.Core.Path.{sym, ap, _∙_}
 use native.Mathlib.Omega.{arith}
 use Rattle.name_tables.specs.Names.{namesOf}
