@@ -4,7 +4,7 @@
 //!
 //! Three pairs of files: `leaves.txt` and `builds.txt` with the crate's answers in
 //! `leaves.answers.txt` and `builds.answers.txt`, and `refusals.txt`, whose answers follow from
-//! document 01's tables alone.
+//! the tables of documents 01 and 02 alone.
 
 mod reading;
 
@@ -62,7 +62,7 @@ pub fn write(folder: &Path, check: bool) -> Result<bool, String> {
     for (name, origin, pair) in [
         ("leaves", "the crate's own text", recorded(&leaves)),
         ("builds", "the crate's own text under document 01's order", builds),
-        ("refusals", "document 01's tables of refusals", refusals),
+        ("refusals", "the tables of refusals of documents 01 and 02", refusals),
     ] {
         let head = format!("# Made by `differ corpus`. The answers are those of {origin}.\n");
         files.push((folder.join(format!("{name}.txt")), head + &pair.cases));
