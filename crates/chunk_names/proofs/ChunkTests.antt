@@ -11,7 +11,7 @@ use Rattle.lists.proofs.Below.{neither}
 use Rattle.refusal.specs.Outcome.{firstNumber}
 use Rattle.refusal.proofs.Ladder.{none-applies, applies, passes, number, no-number, left}
 use Rattle.name_tables.specs.Conditions.{anyNotUtf8, unordered}
-use Rattle.chunk_names.specs.Name.{longestName}
+use Rattle.chunk_names.specs.Name.{maxChunkNameLen}
 use Rattle.chunk_names.specs.Given.{Names, groupNames, entryNames, groupName}
 use Rattle.chunk_names.specs.Conditions.{badHash, chunkTests}
 
@@ -19,7 +19,7 @@ module _ (t : Names) (chunk : ℕ) (hash : List ℕ) (room : ℕ) where
   -- what a call that passes 10 and 12 is handed
   pub record Roomy : Type 0 where
     pub known : chunk < t .k
-    pub enough : longestName ≤ room
+    pub enough : maxChunkNameLen ≤ room
     pub holds-group : length (groupName t chunk) ≤ room
 
   -- and one that passes 14, 15 and 16
@@ -37,9 +37,9 @@ module _ (t : Names) (chunk : ℕ) (hash : List ℕ) (room : ℕ) where
   unfolding chunkTests
   unknown h = number (applies (le-leb (t .k) chunk h))
 
-  pub area-short : chunk < t .k → room < longestName → 12 ≡ first
+  pub area-short : chunk < t .k → room < maxChunkNameLen → 12 ≡ first
   unfolding chunkTests
-  area-short k h = number (passes (lt-leb (t .k) chunk k) (applies (rw (lt-ltb room longestName h))))
+  area-short k h = number (passes (lt-leb (t .k) chunk k) (applies (rw (lt-ltb room maxChunkNameLen h))))
 
   pub group-long : chunk < t .k → room < length (groupName t chunk) → 12 ≡ first
   unfolding chunkTests
@@ -49,8 +49,8 @@ module _ (t : Names) (chunk : ℕ) (hash : List ℕ) (room : ℕ) where
     known-passes : leb (t .k) chunk ≡ false
     known-passes = lt-leb (t .k) chunk (r .known)
 
-    room-passes : (ltb room longestName || ltb room (length (groupName t chunk))) ≡ false
-    room-passes = rw (le-ltb room longestName (r .enough), le-ltb room (length (groupName t chunk)) (r .holds-group))
+    room-passes : (ltb room maxChunkNameLen || ltb room (length (groupName t chunk))) ≡ false
+    room-passes = rw (le-ltb room maxChunkNameLen (r .enough), le-ltb room (length (groupName t chunk)) (r .holds-group))
 
     pub groups-not-text : anyNotUtf8 (groupNames t) ≡ true → 14 ≡ first
     unfolding chunkTests
@@ -85,12 +85,12 @@ module _ (t : Names) (chunk : ℕ) (hash : List ℕ) (room : ℕ) where
       let text = left 14 _ _ (omega arith) (area .1) in
       let order = left 15 _ _ (omega arith) (text .1) in
       let hash-bytes = left 16 _ _ (omega arith) (order .1) in
-      let rooms = neither (ltb room longestName) (ltb room (length (groupName t chunk))) (area .0) in
+      let rooms = neither (ltb room maxChunkNameLen) (ltb room (length (groupName t chunk))) (area .0) in
       let texts = neither (anyNotUtf8 (groupNames t)) (anyNotUtf8 (entryNames t)) (text .0) in
       record {
         roomy = record {
           known = leb-false (t .k) chunk (known .0);
-          enough = ltb-false room longestName (rooms .0);
+          enough = ltb-false room maxChunkNameLen (rooms .0);
           holds-group = ltb-false room (length (groupName t chunk)) (rooms .1);
         };
         groups-text = texts .0;

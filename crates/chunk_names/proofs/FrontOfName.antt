@@ -12,32 +12,32 @@ use Rattle.bitset.specs.declared.entries.BitSet.{BitSet}
 use Rattle.utf8.specs.Start.{startBack}
 use Rattle.utf8.proofs.Starts.{start-back-le, start-back-same}
 use Rattle.chunk_names.specs.Append.{fitting, Appended}
-use Rattle.chunk_names.specs.Name.{separator, longestName, cutByte, shortened, entriesAwareName, entryParts, fullName, nameOf}
+use Rattle.chunk_names.specs.Name.{separator, maxChunkNameLen, truncatedLen, shortened, entriesAwareName, entryParts, fullName, nameOf}
 
 -- what is kept, a separator and the hash, as they are put behind one another
-pub kept-shortened : (front hash : List ℕ) (cut : ℕ) → cut ≡ startBack front cutByte → (take cut front ++ (separator ∷ [])) ++ hash ≡ shortened front hash
+pub kept-shortened : (front hash : List ℕ) (cut : ℕ) → cut ≡ startBack front truncatedLen → (take cut front ++ (separator ∷ [])) ++ hash ≡ shortened front hash
 unfolding shortened
 kept-shortened front hash cut e =
     append-assoc (take cut front) (separator ∷ []) hash ∙ ap (λ n. take n front ++ (separator ∷ hash)) e
 
 -- the cut of a front that has byte 91 is the cut of the whole
-front-shortened : (room : ℕ) (full hash : List ℕ) → cutByte < room → shortened (take room full) hash ≡ shortened full hash
+front-shortened : (room : ℕ) (full hash : List ℕ) → truncatedLen < room → shortened (take room full) hash ≡ shortened full hash
 unfolding shortened
 front-shortened room full hash h =
-    let same : startBack (take room full) cutByte ≡ startBack full cutByte =
-    start-back-same (take room full) full cutByte (λ j l. getD-take room full j 0 (omega arith)) in
-    let near = start-back-le full cutByte in
+    let same : startBack (take room full) truncatedLen ≡ startBack full truncatedLen =
+    start-back-same (take room full) full truncatedLen (λ j l. getD-take room full j 0 (omega arith)) in
+    let near = start-back-le full truncatedLen in
     ap (λ (l : List ℕ). l ++ (separator ∷ hash))
-    (ap (λ n. take n (take room full)) same ∙ take-take (startBack full cutByte) room full (omega arith))
+    (ap (λ n. take n (take room full)) same ∙ take-take (startBack full truncatedLen) room full (omega arith))
 
 module _ (full hash : List ℕ) where
-  kept-whole : length full ≤ longestName → full ≡ entriesAwareName full hash
+  kept-whole : length full ≤ maxChunkNameLen → full ≡ entriesAwareName full hash
   unfolding entriesAwareName
-  kept-whole h = rw (le-ltb longestName (length full) h)
+  kept-whole h = rw (le-ltb maxChunkNameLen (length full) h)
 
-  cut-short : longestName < length full → shortened full hash ≡ entriesAwareName full hash
+  cut-short : maxChunkNameLen < length full → shortened full hash ≡ entriesAwareName full hash
   unfolding entriesAwareName
-  cut-short h = rw (lt-ltb longestName (length full) h)
+  cut-short h = rw (lt-ltb maxChunkNameLen (length full) h)
 
 -- ---- the area that a full name was put into
 
@@ -66,11 +66,11 @@ module _ {area full after : List ℕ} {end : ℕ} (x : Appended area 0 full end 
       x .bytes ∙ ap (λ (r : List ℕ). fitting area 0 full ++ r) (drop-of-length-le area n) ∙ append-nil (fitting area 0 full) ∙ ap (λ m. take m full) z
 
   -- an area of one byte more than the longest name: the name as it is, or cut
-  module _ (room : length area ≡ longestName + 1) (hash : List ℕ) where
-    pub short-name : end ≤ longestName → take end after ≡ entriesAwareName full hash
+  module _ (room : length area ≡ maxChunkNameLen + 1) (hash : List ℕ) where
+    pub short-name : end ≤ maxChunkNameLen → take end after ≡ entriesAwareName full hash
     short-name h = let l : end < length area = omega arith in short-held l ∙ kept-whole full hash (omega (arith, short-length l))
 
-    pub long-name : longestName < end → shortened after hash ≡ entriesAwareName full hash
+    pub long-name : maxChunkNameLen < end → shortened after hash ≡ entriesAwareName full hash
     long-name h =
         let l : length area ≤ end = omega arith in
         ap (λ (f : List ℕ). shortened f hash) (long-held l)

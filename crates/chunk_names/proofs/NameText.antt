@@ -19,7 +19,7 @@ use Rattle.utf8.proofs.Texts.{utf8-append, utf8-ascii}
 use Rattle.utf8.proofs.Cuts.{utf8-cut, cut-starts}
 use Rattle.utf8.proofs.Starts.{start-back-starts, start-back-last, start-back-near}
 use Rattle.name_tables.proofs.AllText.{empty-text, all-text}
-use Rattle.chunk_names.specs.Name.{separator, longestName, cutByte, separated, added, entryParts, shortened, entriesAwareName, fullName, nameOf}
+use Rattle.chunk_names.specs.Name.{separator, maxChunkNameLen, truncatedLen, separated, added, entryParts, shortened, entriesAwareName, fullName, nameOf}
 use Rattle.chunk_names.specs.Given.{Given, groupNames, entryNames, groupName, chunkName}
 use Rattle.chunk_names.specs.Conditions.{anyHigh, tableTests, chunkTests}
 use Rattle.chunk_names.specs.Call.{nameTests, nameOutcome}
@@ -59,15 +59,15 @@ module _ (names : List (List ℕ)) (text : (k : ℕ) → utf8 (getD names k []) 
 -- ---- a name that is cut
 
 module _ (full : List ℕ) (text : utf8 full ≡ true) where
-  kept-text : utf8 (take (startBack full cutByte) full) ≡ true
-  kept-text = utf8-cut full (startBack full cutByte) text (start-back-starts full cutByte text) .0
+  kept-text : utf8 (take (startBack full truncatedLen) full) ≡ true
+  kept-text = utf8-cut full (startBack full truncatedLen) text (start-back-starts full truncatedLen text) .0
 
   -- what is kept is the longest front of at most 91 bytes that is text
-  pub kept-longest : (n : ℕ) → n ≤ cutByte → utf8 (take n full) ≡ true → n ≤ startBack full cutByte
-  kept-longest n h e = go (decLt (startBack full cutByte) n)
+  pub kept-longest : (n : ℕ) → n ≤ truncatedLen → utf8 (take n full) ≡ true → n ≤ startBack full truncatedLen
+  kept-longest n h e = go (decLt (startBack full truncatedLen) n)
     where
-      go : Dec (startBack full cutByte < n) → n ≤ startBack full cutByte
-      go (yes l) = absurd (true≢false (sym (cut-starts full n text e) ∙ start-back-last full cutByte n l h))
+      go : Dec (startBack full truncatedLen < n) → n ≤ startBack full truncatedLen
+      go (yes l) = absurd (true≢false (sym (cut-starts full n text e) ∙ start-back-last full truncatedLen n l h))
       go (no l) = omega arith
 
   module _ (hash : List ℕ) (eight : length hash ≡ 8) (low : anyHigh hash ≡ false) where
@@ -76,22 +76,22 @@ module _ (full : List ℕ) (text : utf8 full ≡ true) where
 
     shortened-text : utf8 (shortened full hash) ≡ true
     unfolding shortened
-    shortened-text = utf8-append (take (startBack full cutByte) full) (separator ∷ hash) kept-text (utf8-append (separator ∷ []) hash separator-text hash-text)
+    shortened-text = utf8-append (take (startBack full truncatedLen) full) (separator ∷ hash) kept-text (utf8-append (separator ∷ []) hash separator-text hash-text)
 
     aware-text : utf8 (entriesAwareName full hash) ≡ true
     unfolding entriesAwareName
-    aware-text = go (ltb longestName (length full))
+    aware-text = go (ltb maxChunkNameLen (length full))
       where
         go : (t : Bool) → utf8 (cond t (shortened full hash) full) ≡ true
         go true = shortened-text
         go false = text
 
     -- a character has at most four bytes, so a name that is cut has at least 97
-    pub shortened-near : longestName < length full → 97 ≤ length (shortened full hash)
+    pub shortened-near : maxChunkNameLen < length full → 97 ≤ length (shortened full hash)
     unfolding shortened
     shortened-near h =
-        let near = start-back-near full cutByte text in
-        rw (length-append (take (startBack full cutByte) full) (separator ∷ hash), length-take (startBack full cutByte) full) (omega arith)
+        let near = start-back-near full truncatedLen text in
+        rw (length-append (take (startBack full truncatedLen) full) (separator ∷ hash), length-take (startBack full truncatedLen) full) (omega arith)
 
 -- ---- an accepted call
 
@@ -122,5 +122,5 @@ module _ (g : Given) (room length′ : ℕ) (e : nameOutcome g room ≡ accepted
       go false = group-text
 
   -- and of at most 100 bytes, if the chunk is entries-aware
-  pub name-short : g .entries-aware ≡ true → length (chunkName g) ≤ longestName
+  pub name-short : g .entries-aware ≡ true → length (chunkName g) ≤ maxChunkNameLen
   name-short = at-most-100 g (good-hash (g .hash) (handed .good-hash) .0)

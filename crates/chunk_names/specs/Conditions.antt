@@ -10,7 +10,7 @@ use Rattle.ids.specs.Offsets.{badOffsets}
 use Rattle.ids.specs.Parts.{idAt, idsOf}
 use Rattle.name_tables.specs.Names.{badNames}
 use Rattle.name_tables.specs.Conditions.{anyNotUtf8, unordered}
-use Rattle.chunk_names.specs.Name.{longestName}
+use Rattle.chunk_names.specs.Name.{maxChunkNameLen, hashDisplayLen}
 use Rattle.chunk_names.specs.Given.{Names, groupNames, entryNames, groupName}
 
 -- 1: a count above its limit
@@ -27,7 +27,7 @@ badTables t = badNames (t .group-names) (t .group-offsets) || badNames (t .entry
 
 -- 12: "a name area shorter than 100 bytes or than the group name"; room is the length of the area
 abbrev pub shortArea : List ℕ → ℕ → Bool
-shortArea group room = ltb room longestName || ltb room (length group)
+shortArea group room = ltb room maxChunkNameLen || ltb room (length group)
 
 -- 14: "a name handed in isn't UTF-8", used or not
 abbrev pub notUtf8 : Names → Bool
@@ -40,7 +40,7 @@ anyHigh (b ∷ l) = leb 128 b || anyHigh l
 
 -- 16: "the hash isn't eight bytes below 128", used or not
 abbrev pub badHash : List ℕ → Bool
-badHash hash = badLength hash 8 || anyHigh hash
+badHash hash = badLength hash hashDisplayLen || anyHigh hash
 
 -- the conditions on the tables of names
 unfoldable pub tableTests : Names → List Test

@@ -14,12 +14,16 @@ abbrev pub separator : ℕ
 separator = 126
 
 -- the longest name of an entries-aware chunk
-abbrev pub longestName : ℕ
-longestName = 100
+abbrev pub maxChunkNameLen : ℕ
+maxChunkNameLen = 100
 
--- where a longer full name is cut: what is left has room for a separator and eight bytes
-abbrev pub cutByte : ℕ
-cutByte = 91
+-- the bytes of a hash that a name shows
+abbrev pub hashDisplayLen : ℕ
+hashDisplayLen = 8
+
+-- where a longer full name is cut: what is left has room for a separator and the hash
+abbrev pub truncatedLen : ℕ
+truncatedLen = 91
 
 -- "a "~" and that entry's name"; an empty name is passed over
 unfoldable pub separated : List ℕ → List ℕ
@@ -44,12 +48,12 @@ fullName group bits names = group ++ entryParts bits names
 -- "cut at byte 91, or further back to the start of a UTF-8 character, then "~" and eight hash bytes of it"
 unfoldable pub shortened : List ℕ → List ℕ → List ℕ
 unfolding startBack
-shortened full hash = take (startBack full cutByte) full ++ (separator ∷ hash)
+shortened full hash = take (startBack full truncatedLen) full ++ (separator ∷ hash)
 
 -- "A full name above 100 bytes is cut"
 unfoldable pub entriesAwareName : List ℕ → List ℕ → List ℕ
 unfolding shortened
-entriesAwareName full hash = cond (ltb longestName (length full)) (shortened full hash) full
+entriesAwareName full hash = cond (ltb maxChunkNameLen (length full)) (shortened full hash) full
 
 -- the name of a chunk: "Other chunks keep the bare group name at any length."
 unfoldable pub nameOf : Bool → List ℕ → BitSet → List (List ℕ) → List ℕ → List ℕ

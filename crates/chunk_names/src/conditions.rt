@@ -1,5 +1,6 @@
 // The conditions that a name call tests, in their order.
-use crate::name::LONGEST_NAME;
+use crate::name::HASH_DISPLAY_LEN;
+use crate::name::MAX_CHUNK_NAME_LEN;
 ghost use mathlib.Core.Path.{_≡_};
 ghost use Rattle.refusal.specs.Outcome.{firstNumber};
 ghost use Rattle.name_tables.specs.Names.{NameTable};
@@ -62,7 +63,7 @@ fn any_high(bytes: &[u8]) -> bool
 fn bad_hash(hash: &[u8]) -> bool
     ensures { λ r. ⌜ r ≡ badHash (now (hash .entry)) ⌝ }
 {
-    if hash.len() != 8 {
+    if hash.len() != HASH_DISPLAY_LEN {
         return true;
     }
     any_high(hash)
@@ -93,7 +94,7 @@ pub fn chunk_number(
     if k <= number as usize {
         return refusal::NUMBER;
     }
-    if room < LONGEST_NAME {
+    if room < MAX_CHUNK_NAME_LEN {
         return refusal::AREA;
     }
     if room < name_tables::name_at(group_names, group_offsets, number as usize).len() {

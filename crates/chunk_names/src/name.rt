@@ -6,22 +6,25 @@ use bitset::entries::BitSet;
 ghost use Prim.Native.Nat.{_<_};
 ghost use lib.ListN.{length};
 ghost use Rattle.name_tables.specs.Names.{namesOf};
-ghost use Rattle.chunk_names.specs.Name.{cutByte, shortened, entriesAwareName, fullName, nameOf};
+ghost use Rattle.chunk_names.specs.Name.{truncatedLen, shortened, entriesAwareName, fullName, nameOf};
 ghost use Rattle.chunk_names.specs.Append.{Appended};
 ghost use Rattle.chunk_names.specs.Tables.{EntryTable};
 
 // The longest name of an entries-aware chunk, in bytes.
-pub const LONGEST_NAME: usize = 100;
+pub const MAX_CHUNK_NAME_LEN: usize = 100;
+
+// The bytes of a hash that a name shows.
+pub const HASH_DISPLAY_LEN: usize = 8;
 
 // Where a longer full name is cut, or further back.
-const CUT_BYTE: usize = 91;
+const TRUNCATED_LEN: usize = 91;
 
 // A full name that is too long, cut at the start of a character, then a separator and the hash.
 fn write_shortened(front: &[u8], hash: &[u8], name: &mut [u8]) -> usize
-    requires { ⌜ cutByte < length (now front) ⌝ }
+    requires { ⌜ truncatedLen < length (now front) ⌝ }
     ensures { λ r. ⌜ Appended (now (name .entry)) 0 (shortened (now (front .entry)) (now (hash .entry))) r (now (name .exit)) ⌝ }
 {
-    let cut = utf8::start::start_back(front, CUT_BYTE);
+    let cut = utf8::start::start_back(front, TRUNCATED_LEN);
     let kept = append(name, 0, &front[..cut]);
     let separator = [SEPARATOR; 1];
     let behind = append(name, kept, &separator);
@@ -45,7 +48,7 @@ fn write_entries_aware_name(
 {
     let mut front = [0u8; 101];
     let length = write_full_name(&mut front, group, bits, e, entry_names, entry_offsets);
-    if length <= LONGEST_NAME {
+    if length <= MAX_CHUNK_NAME_LEN {
         return append(name, 0, &front[..length]);
     }
     write_shortened(&front, hash, name)
