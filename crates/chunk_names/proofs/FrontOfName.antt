@@ -1,18 +1,16 @@
 -- One byte more than the longest name is enough of a full name: it tells whether the name is cut, and the cut reads no further.
 use Prim.Native.Nat.{ℕ, _+_, _-_, _≤_, _<_}
-use mathlib.Core.Bool.{Bool, true, false}
 use mathlib.Core.List.{List, [], _∷_, _++_, append-nil, append-assoc}
-use mathlib.Core.Path.{_≡_, refl, sym, ap, _∙_}
+use mathlib.Core.Path.{_≡_, sym, ap, _∙_}
 use native.Mathlib.Nat.{zero-add}
 use native.Mathlib.Omega.{arith}
 use borrow.Author.Tests.{lt-ltb, le-ltb}
 use lib.ListN.{length, take, drop, length-take, drop-of-length-le}
 use lib.Seq.{take-all, take-at, take-take, getD-take}
-use Rattle.bitset.specs.declared.entries.BitSet.{BitSet}
 use Rattle.utf8.specs.Start.{startBack}
 use Rattle.utf8.proofs.Starts.{start-back-le, start-back-same}
 use Rattle.chunk_names.specs.Append.{fitting, Appended}
-use Rattle.chunk_names.specs.Name.{separator, maxChunkNameLen, truncatedLen, shortened, entriesAwareName, entryParts, fullName, nameOf}
+use Rattle.chunk_names.specs.Name.{separator, maxChunkNameLen, truncatedLen, shortened, entriesAwareName}
 
 -- what is kept, a separator and the hash, as they are put behind one another
 pub kept-shortened : (front hash : List ℕ) (cut : ℕ) → cut ≡ startBack front truncatedLen → (take cut front ++ (separator ∷ [])) ++ hash ≡ shortened front hash
@@ -76,19 +74,3 @@ module _ {area full after : List ℕ} {end : ℕ} (x : Appended area 0 full end 
         ap (λ (f : List ℕ). shortened f hash) (long-held l)
         ∙ front-shortened (length area) full hash (omega arith)
         ∙ cut-short full hash (omega (arith, long-length l))
-
--- ---- which of the two names a chunk has
-
-module _ (group : List ℕ) (bits : BitSet) (names : List (List ℕ)) where
-  pub full-name : group ++ entryParts bits names ≡ fullName group bits names
-  unfolding fullName
-  full-name = refl
-
-  module _ (aware : Bool) (hash : List ℕ) where
-    pub aware-name : aware ≡ true → entriesAwareName (fullName group bits names) hash ≡ nameOf aware group bits names hash
-    unfolding nameOf
-    aware-name e = rw e
-
-    pub bare-name : aware ≡ false → group ≡ nameOf aware group bits names hash
-    unfolding nameOf
-    bare-name e = rw e

@@ -3,6 +3,7 @@ pub mod ExamplesHold
 pub mod Appending
 pub mod EntryParts
 pub mod FrontOfName
+pub mod NameKinds
 pub mod HashBytes
 pub mod TableTests
 pub mod ChunkTests

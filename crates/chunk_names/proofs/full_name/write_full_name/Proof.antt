@@ -2,7 +2,7 @@
 use native.Mathlib.Omega.{arith}
 use Rattle.name_tables.specs.Names.{namesOf}
 use Rattle.chunk_names.proofs.Appending.{appended-both, appended-as, mid-within}
-use Rattle.chunk_names.proofs.FrontOfName.{full-name}
+use Rattle.chunk_names.proofs.NameKinds.{full-name}
 use borrow.Author.Needs.{needs}
 use Rattle.chunk_names.proofs.full_name.write_full_name.Statement.{statement}
 use Rattle.chunk_names.proofs.full_name.write_full_name.Tie as tie

@@ -1,7 +1,7 @@
 -- `chunk_names::name::write_name` meets its contract: an entries-aware chunk has the name of its own, any other its group's.
 use Rattle.name_tables.specs.Names.{namesOf}
 use Rattle.chunk_names.proofs.Appending.{appended-as}
-use Rattle.chunk_names.proofs.FrontOfName.{aware-name, bare-name}
+use Rattle.chunk_names.proofs.NameKinds.{aware-name, bare-name}
 use borrow.Author.Needs.{needs}
 use Rattle.chunk_names.proofs.name.write_name.Statement.{statement}
 use Rattle.chunk_names.proofs.name.write_name.Tie as tie
