@@ -2,3 +2,4 @@
 pub mod AsItems
 pub mod Runs
 pub mod SetMembers
+pub mod SetRanks

@@ -9,11 +9,11 @@ use Rattle.items.specs.Turn.{Tables}
 use Rattle.running.specs.Turns.{SetTurning}
 use Rattle.subgroups.specs.Merged.{Processed}
 
--- `order` has the set's positions by subgroup, `rows` the united bits of each
+-- `order` has the set's positions by subgroup in the order of the turns, `rows` the united bits of each
 pub record DividedReady (t : Tables) (bits : List ℕ) (number at : ℕ) (now : Work) (set : List ℕ) (threshold : Float)
     (rows order members : List ℕ) : Type 0 where
   pub turning : SetTurning t bits number at now set
-  pub processed : Processed bits (t .sizes) set threshold rows order
+  pub processed : Processed bits (t .sizes) set (t .rank) threshold rows order
   pub few : length set ≤ 4096
   pub positions : length order ≡ length set
   pub row-each : 4 * length set ≤ length rows

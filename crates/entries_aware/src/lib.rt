@@ -1,4 +1,4 @@
-// An entries-aware set turned into chunks: its subgroups are items, one after the other.
+// An entries-aware set turned into chunks: its subgroups are items, one after the other by the smallest id in them.
 use bitset::table::row;
 use emitting::emit::Head;
 use index::ChunkIdx;
@@ -12,10 +12,11 @@ ghost use mathlib.Core.Path.{_≡_};
 ghost use Prim.Native.Nat.{_*_, _≤_};
 ghost use lib.ListN.{length};
 ghost use Rattle.grouping.specs.Subgroups.{dividedItems};
+ghost use Rattle.settling.specs.Traversal.{inTurn};
 ghost use Rattle.running.specs.Turns.{SetTurning, SetTurned};
 ghost use Rattle.entries_aware.specs.Divided.{DividedReady};
 
-// The subgroups of a set, which stand in runs of one number each.
+// The subgroups of a set, which stand in runs of one number each, in the order of their turns.
 fn convert_divided(
     settings: Settings,
     group: u32,
@@ -55,7 +56,7 @@ fn convert_divided(
       sizes = now (sizes .entry);
       rank = now (rank .entry);
     }) (now (bits .entry)) (now (set .entry))
-        (λ tree places. dividedItems settings group name tree places) (number .0) at r (record {
+        (λ tree places. inTurn tree (dividedItems settings group name tree places)) (number .0) at r (record {
           chunk-of = now («chunk_of» .entry);
           group-of = now («group_of» .entry);
           name-of = now («name_of» .entry);
@@ -152,7 +153,7 @@ fn convert_few(
       sizes = now (sizes .entry);
       rank = now (rank .entry);
     }) (now (bits .entry)) (now (set .entry))
-        (λ tree places. dividedItems settings group name tree places) (number .0) at r (record {
+        (λ tree places. inTurn tree (dividedItems settings group name tree places)) (number .0) at r (record {
           chunk-of = now («chunk_of» .entry);
           group-of = now («group_of» .entry);
           name-of = now («name_of» .entry);
@@ -174,6 +175,7 @@ fn convert_few(
         bits,
         sizes,
         set,
+        rank,
         settings.threshold,
         &mut kind_bits,
         &mut divided[..count],
@@ -242,7 +244,7 @@ fn convert_many(
       sizes = now (sizes .entry);
       rank = now (rank .entry);
     }) (now (bits .entry)) (now (set .entry))
-        (λ tree places. dividedItems settings group name tree places) (number .0) at r (record {
+        (λ tree places. inTurn tree (dividedItems settings group name tree places)) (number .0) at r (record {
           chunk-of = now («chunk_of» .entry);
           group-of = now («group_of» .entry);
           name-of = now («name_of» .entry);
@@ -264,6 +266,7 @@ fn convert_many(
         bits,
         sizes,
         set,
+        rank,
         settings.threshold,
         &mut kind_bits,
         &mut divided[..count],
@@ -333,7 +336,7 @@ pub fn convert_subgroups(
       sizes = now (sizes .entry);
       rank = now (rank .entry);
     }) (now (bits .entry)) (now (set .entry))
-        (λ tree places. dividedItems settings group name tree places) (number .0) at r (record {
+        (λ tree places. inTurn tree (dividedItems settings group name tree places)) (number .0) at r (record {
           chunk-of = now («chunk_of» .entry);
           group-of = now («group_of» .entry);
           name-of = now («name_of» .entry);

@@ -5,12 +5,14 @@ use mathlib.Core.List.{List, [], _∷_}
 use Rattle.grouping.specs.Builds.{priority, minSize, recursionOff, recursionOn}
 use Rattle.grouping.specs.SetBuilds.{paper, inTheWay, masked, limited, deep, noModules, noGroups}
 use Rattle.grouping.specs.ItemBuilds.{joins, joinsAgain, apart, pieces, crossed, overlap, bitsStay}
+use Rattle.grouping.specs.OrderBuilds.{spread, moved, leftBefore, cutInPlace, joinedId, byNumber}
 use Rattle.grouping.specs.TwinBuilds.{ties, renumbered}
 use Rattle.grouping.specs.Refusals.{sound}
 use Rattle.grouping.specs.Expected.{Example, chunk, gives, givesIn, givesFrom}
 
 unfoldable pub examples : List Example
-unfolding givesFrom paper inTheWay masked limited deep noModules noGroups joins joinsAgain apart pieces crossed overlap bitsStay ties renumbered sound
+unfolding givesFrom paper inTheWay masked limited deep noModules noGroups joins joinsAgain apart pieces crossed overlap bitsStay
+    spread moved leftBefore cutInPlace joinedId byNumber ties renumbered sound
 examples =
     -- document 01's case: the higher priority first, recursion on by default and off in group 1
     gives (paper (priority 5 ∷ recursionOff ∷ [])) 2 (1 ∷ 2 ∷ 2 ∷ 0 ∷ []) (0 ∷ 3 ∷ 0 ∷ 0 ∷ []) (chunk 1 1 1 40 1 ∷ chunk 2 0 0 30 1 ∷ [])
@@ -39,14 +41,14 @@ examples =
     ∷ gives noModules 0 [] [] []
     -- G = 0 gives no chunk, and each module's entries are 0
     ∷ gives noGroups 0 (0 ∷ 0 ∷ []) (0 ∷ 0 ∷ []) []
-    -- subgroups by first appearance in execution order, a join, and the joined one in the place of its target
+    -- a join: modules, sizes and bits of both, and the smallest id of all
     ∷ gives joins 1 (1 ∷ 1 ∷ 1 ∷ 1 ∷ 2 ∷ 2 ∷ []) (3 ∷ 1 ∷ 0 ∷ 2 ∷ 6 ∷ 0 ∷ []) (chunk 4 0 0 55 (1 + 2 ^ 255) ∷ chunk 5 0 0 12 (2 ^ 255) ∷ [])
     -- a joined subgroup that joins again
     ∷ gives joinsAgain 1 (1 ∷ 1 ∷ 1 ∷ []) (2 ∷ 0 ∷ 1 ∷ []) (chunk 3 0 0 23 15 ∷ [])
-    -- a threshold of 0, one that is a size itself, and a subgroup of size 0; as many chunks as modules
-    ∷ gives apart 2 (2 ∷ 1 ∷ 3 ∷ 6 ∷ 5 ∷ 4 ∷ []) (0 ∷ 0 ∷ 0 ∷ 0 ∷ 0 ∷ 0 ∷ [])
-    (chunk 2 0 0 2 (2 ^ 128) ∷ chunk 1 0 0 1 (2 ^ 64) ∷ chunk 3 0 0 3 0
-    ∷ chunk 6 1 0 0 1 ∷ chunk 5 1 0 6 (2 ^ 128) ∷ chunk 4 1 0 5 (2 ^ 64) ∷ [])
+    -- a threshold of 0, one that is a size itself, and a subgroup of size 0; as many chunks as modules, by ids and not as they run
+    ∷ gives apart 2 (1 ∷ 2 ∷ 3 ∷ 4 ∷ 5 ∷ 6 ∷ []) (0 ∷ 0 ∷ 0 ∷ 0 ∷ 0 ∷ 0 ∷ [])
+    (chunk 1 0 0 1 (2 ^ 64) ∷ chunk 2 0 0 2 (2 ^ 128) ∷ chunk 3 0 0 3 0
+    ∷ chunk 4 1 0 5 (2 ^ 64) ∷ chunk 5 1 0 6 (2 ^ 128) ∷ chunk 6 1 0 0 1 ∷ [])
     -- a cut into three, the right piece's pieces first, each exactly at max_size; and an item above it that cannot be cut
     ∷ gives pieces 2 (2 ∷ 3 ∷ 4 ∷ 3 ∷ 2 ∷ 1 ∷ []) (5 ∷ 0 ∷ 0 ∷ 2 ∷ 0 ∷ 0 ∷ [])
     (chunk 6 0 0 20 32 ∷ chunk 1 0 0 20 9 ∷ chunk 4 0 0 20 6 ∷ chunk 3 0 1 40 16 ∷ [])
@@ -56,6 +58,18 @@ examples =
     ∷ gives overlap 5 (1 ∷ 2 ∷ 2 ∷ 2 ∷ []) (0 ∷ 4 ∷ 0 ∷ 3 ∷ []) (chunk 1 2 0 10 1 ∷ chunk 2 0 0 55 14 ∷ [])
     -- an entries-aware item keeps its bits after a module left and after a cut
     ∷ gives bitsStay 2 (1 ∷ 4 ∷ 3 ∷ 2 ∷ []) (0 ∷ 0 ∷ 0 ∷ 0 ∷ []) (chunk 1 0 0 5 1 ∷ chunk 4 1 0 8 3 ∷ chunk 3 1 0 8 3 ∷ chunk 2 1 0 8 3 ∷ [])
+    -- the subgroup with the smallest id first, against number, execution order, the id that runs first and the largest id
+    ∷ gives spread 1 (2 ∷ 1 ∷ 1 ∷ []) (0 ∷ 0 ∷ 2 ∷ []) (chunk 3 0 0 6 1 ∷ chunk 1 0 0 1 2 ∷ [])
+    -- the modules before in another execution order: the same chunks, in the same order
+    ∷ gives moved 1 (2 ∷ 1 ∷ 1 ∷ []) (0 ∷ 3 ∷ 0 ∷ []) (chunk 2 0 0 6 1 ∷ chunk 1 0 0 1 2 ∷ [])
+    -- a smallest id that has left its item counts all the same
+    ∷ gives leftBefore 2 (3 ∷ 1 ∷ 2 ∷ []) (0 ∷ 0 ∷ 0 ∷ []) (chunk 2 1 0 2 1 ∷ chunk 3 0 0 4 1 ∷ chunk 1 0 0 1 2 ∷ [])
+    -- the pieces of a cut where their item stood, the right one first
+    ∷ gives cutInPlace 1 (3 ∷ 2 ∷ 1 ∷ []) (0 ∷ 0 ∷ 0 ∷ []) (chunk 3 0 0 4 1 ∷ chunk 2 0 0 2 1 ∷ chunk 1 0 0 1 2 ∷ [])
+    -- the smallest id from the part that joined
+    ∷ gives joinedId 1 (2 ∷ 1 ∷ 1 ∷ []) (0 ∷ 0 ∷ 2 ∷ []) (chunk 3 0 0 5 5 ∷ chunk 1 0 0 2 2 ∷ [])
+    -- a join that is decided by number, which is by execution order
+    ∷ gives byNumber 1 (2 ∷ 1 ∷ 1 ∷ []) (0 ∷ 0 ∷ 2 ∷ []) (chunk 3 0 0 3 5 ∷ chunk 1 0 0 2 2 ∷ [])
     -- ties go to the lower group and to the lower name; chunk numbers go on from the count on entry
     ∷ gives ties 3 (65537 ∷ 65536 ∷ 65536 ∷ 65537 ∷ 65538 ∷ []) (0 ∷ 3 ∷ 0 ∷ 1 ∷ 0 ∷ []) (chunk 2 0 0 50 3 ∷ chunk 4 0 1 50 5 ∷ chunk 5 1 0 60 1 ∷ [])
     -- the build before, renumbered, in other areas

@@ -29,7 +29,7 @@ joinsAgain =
     (group (entriesAware 10 ∷ []) (2 ∷ 2 ∷ 2 ∷ []) ∷ [])
 
 -- Nothing is joined: group 0's threshold is 0, and group 1's is 5, where the sizes are 0, 6 and 5. The subgroups differ in the second and the
--- third word of their entry bits, and one has no entry.
+-- third word of their entry bits, and one has no entry. They run "b", "a", "c" and "f", "e", "d", and stand in the order of their ids.
 unfoldable pub apart : Given
 unfolding build row
 apart =

@@ -17,6 +17,7 @@ pub mod Renumbering
 pub mod Builds
 pub mod SetBuilds
 pub mod ItemBuilds
+pub mod OrderBuilds
 pub mod TwinBuilds
 pub mod Expected
 pub mod Changes

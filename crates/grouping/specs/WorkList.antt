@@ -1,14 +1,17 @@
--- Step 3: "The work list takes higher priority first, then lower group, then lower name, then lower subgroup number."
+-- Step 3: "The work list takes higher priority first, then lower group, then lower name", and then the smallest id held when subgroups were
+-- finished.
 use Prim.Native.Nat.{ℕ, suc}
 use mathlib.Core.Bool.{Bool, true, false, cond}
-use mathlib.Core.List.{List, [], _∷_, _++_}
+use mathlib.Core.List.{List, [], _∷_, _++_, map, foldl}
 use mathlib.Core.Option.{none}
 use lib.Dec.{ltb}
 use Rattle.lists.specs.Keep.{keep}
+use Rattle.lists.specs.Least.{earlier}
 use Rattle.lists.specs.Range.{range}
 use Rattle.lists.specs.Sort.{sortBy}
+use Rattle.ids.specs.Order.{before}
 use Rattle.options.specs.declared.Settings.{Settings}
-use Rattle.grouping.specs.Tree.{Tree}
+use Rattle.grouping.specs.Tree.{Tree, memberAt}
 use Rattle.grouping.specs.Item.{Item}
 use Rattle.grouping.specs.Sets.{named, setOf}
 use Rattle.grouping.specs.Subgroups.{dividedItems}
@@ -17,12 +20,21 @@ use Rattle.grouping.specs.Subgroups.{dividedItems}
 abbrev pub lowerOr : ℕ → ℕ → Bool → Bool
 lowerOr a b next = cond (ltb a b) true (cond (ltb b a) false next)
 
--- the last tie: which of two subgroups of one (group, name) comes first in the tree
-abbrev pub subgroupFirst : Tree → Item → Item → Bool
-subgroupFirst tree a b = ltb (a .subgroup) (b .subgroup)
+-- "the smallest stable id" held at places
+unfoldable pub smallestId : Tree → List ℕ → List ℕ
+unfolding before
+smallestId tree [] = []
+smallestId tree (p ∷ places) = foldl (earlier before) (memberAt tree p .id) (map (λ q. memberAt tree q .id) places)
+
+-- The last tie, between subgroups of one (group, name). Items are ordered before any turn, so these are the ids "they held when subgroups were
+-- finished, after merging".
+unfoldable pub subgroupFirst : Tree → Item → Item → Bool
+unfolding before smallestId
+subgroupFirst tree a b = before (smallestId tree (a .places)) (smallestId tree (b .places))
 
 -- the order of the work list
 unfoldable pub comesFirst : Tree → Item → Item → Bool
+unfolding subgroupFirst
 comesFirst tree a b =
     lowerOr (b .settings .priority) (a .settings .priority) (lowerOr (a .group) (b .group) (lowerOr (a .name) (b .name) (subgroupFirst tree a b)))
 

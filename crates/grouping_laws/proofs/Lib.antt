@@ -1,5 +1,6 @@
 -- The laws of the definitions of specs/, and the renumbering rule.
 pub mod Accepted
+pub mod OneId
 pub mod Places
 pub mod TreeEqual
 pub mod BitKinds
@@ -20,3 +21,4 @@ pub mod SetsAreCaptures
 pub mod KindsEnough
 pub mod AlikeBuilds
 pub mod LowestNumber
+pub mod SmallestIds

@@ -3,3 +3,4 @@ pub mod Writing
 pub mod Gathering
 pub mod ByName
 pub mod MatchedKeys
+pub mod KeysTogether

@@ -74,7 +74,12 @@ pub record Nameable (answers order area : List ℕ) : Type 0 where
   pub name : (i : ℕ) → i < length order → getD answers (getD order i 0) 0 < 65537
   pub room : length order ≤ length area
 
--- [from, end) is all of the numbers from `from` on that have the name of the first of them
+-- numbers of one key stand together
+abbrev pub Together : List ℕ → Type 0
+Together l =
+    (i j k : ℕ) → i ≤ j → j ≤ k → k < length l → keyOf (getD l k 0) ≡ keyOf (getD l i 0) → keyOf (getD l j 0) ≡ keyOf (getD l i 0)
+
+-- [from, end) is all of the numbers from `from` on that have the key of the first of them
 pub record RunEnd (matched : List ℕ) (from end : ℕ) : Type 0 where
   pub some : from < end
   pub within : end ≤ length matched

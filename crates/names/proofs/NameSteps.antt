@@ -25,7 +25,7 @@ use Rattle.grouping.specs.WorkList.{itemsOfSet}
 use Rattle.grouping_laws.proofs.SetPlaces.{Placed}
 use Rattle.settling.specs.Modules.{Passed}
 use Rattle.settling.specs.Settled.{settled}
-use Rattle.settling.specs.Traversal.{namesOf, itemsOf, afterName}
+use Rattle.settling.specs.Traversal.{inTurn, namesOf, itemsOf, afterName}
 use Rattle.settling.proofs.LoopSteps.{name-more}
 use Rattle.emitting.specs.Emitted.{Work, HasEntry}
 use Rattle.emitting.proofs.Chunk.{SameLengths, same-lengths, lengths-kept}
@@ -151,7 +151,7 @@ module _ {t : Tables} {w : Walking} {bits : List ℕ} {settings : Settings} {gro
 
       module _ {more : ℕ} {after : Work}
           (turned : SetTaken t bits (settings .«entries_aware») (take count area)
-          (λ tree places. itemsOfSet (settings .«entries_aware») settings group name tree places)
+          (λ tree places. inTurn tree (itemsOfSet (settings .«entries_aware») settings group name tree places))
           (number + made) (at + made) more now after) where
         next-done : (b : Given) (start : ℕ) → ItemFits b t bits → GroupFits b w settings group matched
             → Done b start settings group (drop to matched) number at (made + more) entry after
@@ -188,7 +188,7 @@ module _ {t : Tables} {w : Walking} {bits : List ℕ} {settings : Settings} {gro
             tree = treeOf (pre .turning .b)
 
             items : List Item
-            items = itemsOfSet (settings .«entries_aware») settings group name tree (setOf settings group tree name)
+            items = inTurn tree (itemsOfSet (settings .«entries_aware») settings group name tree (setOf settings group tree name))
 
             turn : Advance (pre .turning .b) (pre .turning .start) (λ chunks. foldl (settled tree) chunks items) (number + made) (at + made) more now after
             turn =

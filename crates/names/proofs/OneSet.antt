@@ -5,12 +5,14 @@ use mathlib.Core.List.{List}
 use mathlib.Core.Option.{none}
 use mathlib.Core.Path.{_≡_, refl, sym, subst}
 use lib.ListN.{length}
+use Rattle.lists.specs.Sort.{sortBy, insertBy}
 use Rattle.bitset.specs.declared.entries.BitSet.{BitSet}
 use Rattle.options.specs.declared.Settings.{Settings}
 use Rattle.emitting.specs.declared.emit.Head.{Head}
 use Rattle.emitting.specs.Emitted.{Work}
 use Rattle.grouping.specs.WorkList.{itemsOfSet}
 use Rattle.settling.specs.Modules.{modulesAt}
+use Rattle.settling.specs.Traversal.{inTurn}
 use Rattle.items.specs.declared.convert.Limits.{Limits}
 use Rattle.left.specs.Untaken.{untaken, Listed}
 use Rattle.pieces.specs.Chunks.{Converted}
@@ -50,10 +52,11 @@ module _ {t : Tables} {bits : List ℕ} {number at : ℕ} {now : Work} {set : Li
     pub item-turned : (own : BitSet) → settings .«entries_aware» ≡ false
         → Converted (emittedFrom t (headOf group name own) (limitsOf settings) (untaken (now .chunk-of) set)) bits number at count now after
         → SetTaken t bits (settings .«entries_aware») set
-        (λ tree places. itemsOfSet (settings .«entries_aware») settings group name tree places) number at count now after
+        (λ tree places. inTurn tree (itemsOfSet (settings .«entries_aware») settings group name tree places)) number at count now after
+    unfolding inTurn sortBy insertBy
     item-turned own off c =
         subst
-        (λ (by : Bool). SetTaken t bits (settings .«entries_aware») set (λ tree places. itemsOfSet by settings group name tree places) number at count now after)
+        (λ (by : Bool). SetTaken t bits (settings .«entries_aware») set (λ tree places. inTurn tree (itemsOfSet by settings group name tree places)) number at count now after)
         (sym off)
         (record {
           advance = λ b start places fits placed stands.
@@ -67,10 +70,10 @@ module _ {t : Tables} {bits : List ℕ} {number at : ℕ} {now : Work} {set : Li
 
     -- a set that is divided
     pub divided-turned : settings .«entries_aware» ≡ true
-        → SetTurned t bits set (λ tree places. itemsOfSet true settings group name tree places) number at count now after
+        → SetTurned t bits set (λ tree places. inTurn tree (itemsOfSet true settings group name tree places)) number at count now after
         → SetTaken t bits (settings .«entries_aware») set
-        (λ tree places. itemsOfSet (settings .«entries_aware») settings group name tree places) number at count now after
+        (λ tree places. inTurn tree (itemsOfSet (settings .«entries_aware») settings group name tree places)) number at count now after
     divided-turned on s =
         subst
-        (λ (by : Bool). SetTaken t bits (settings .«entries_aware») set (λ tree places. itemsOfSet by settings group name tree places) number at count now after)
+        (λ (by : Bool). SetTaken t bits (settings .«entries_aware») set (λ tree places. inTurn tree (itemsOfSet by settings group name tree places)) number at count now after)
         (sym on) (record { advance = λ b start places fits placed stands. s .advance b start places fits placed (stands .whole on) })

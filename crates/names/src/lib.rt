@@ -16,6 +16,7 @@ ghost use Prim.Native.Nat.{_*_, _≤_};
 ghost use lib.ListN.{length};
 ghost use Rattle.forget.specs.Unfollowed.{unfollowed};
 ghost use Rattle.grouping.specs.WorkList.{itemsOfSet};
+ghost use Rattle.settling.specs.Traversal.{inTurn};
 ghost use Rattle.closed.specs.Closed.{Closed};
 ghost use Rattle.names.specs.Turn.{SetOffered, SetTaken, NamesTurning, NamesRoom, NamesTurned};
 
@@ -59,7 +60,7 @@ fn convert_set(
       sizes = now (sizes .entry);
       rank = now (rank .entry);
     }) (now (bits .entry)) (settings .«entries_aware») (now (set .entry))
-        (λ tree places. itemsOfSet (settings .«entries_aware») settings group name tree places) (number .0) at r (record {
+        (λ tree places. inTurn tree (itemsOfSet (settings .«entries_aware») settings group name tree places)) (number .0) at r (record {
           chunk-of = now («chunk_of» .entry);
           group-of = now («group_of» .entry);
           name-of = now («name_of» .entry);

@@ -19,11 +19,12 @@ use Rattle.ids.proofs.ByteOrder.{equal-of-neither}
 use Rattle.grouping.specs.Given.{Given}
 use Rattle.grouping.specs.Tree.{placesOf, treeOf}
 use Rattle.grouping.specs.Fate.{inIdOrder}
+use Rattle.grouping_laws.proofs.OneId.{one-id}
 use Rattle.settling.specs.Modules.{Passed, moduleAt, modulesAt}
 use Rattle.settling.proofs.SideOrder.{idBefore}
 use Rattle.oversized.specs.InOrder.{ranked, byRank}
 use Rattle.running.specs.Fits.{Ranks}
-use Rattle.running.proofs.Tests.{few-modules, one-id}
+use Rattle.running.proofs.Tests.{few-modules}
 use Rattle.running.proofs.ModulesAt.{Within, id-at, module-below, module-listed}
 
 module _ (b : Given) (passed : Passed b) (rank : List ℕ) (ranks : Ranks b rank) where
@@ -55,7 +56,7 @@ module _ (b : Given) (passed : Passed b) (rank : List ℕ) (ranks : Ranks b rank
 
       same : before (id l) (id m) ≡ false → before (id m) (id l) ≡ false → l ≡ m
       same e f =
-          one-id b passed l m (module-below b p u) (module-below b q v) (module-listed b p u) (module-listed b q v) (equal-of-neither (id l) (id m) e f)
+          one-id b (passed .ids-apart) l m (module-below b p u) (module-below b q v) (module-listed b p u) (module-listed b q v) (equal-of-neither (id l) (id m) e f)
 
       go : (x y : Bool) → before (id l) (id m) ≡ x → before (id m) (id l) ≡ y → ltb (key p) (key q) ≡ before (id l) (id m)
       go true y e f =

@@ -11,7 +11,6 @@ use Rattle.grouping.specs.ChunkList.{Chunk, chunksOf, chunkList}
 use Rattle.settling.specs.Settled.{settled}
 use Rattle.settling.specs.Traversal.{groupOrder, namesOf, itemsOf, afterName, afterGroup, allGroups}
 use Rattle.lists.proofs.Blocks.{foldl-flatMap}
-use Rattle.settling.proofs.ItemOrder.{names-blocks}
 use Rattle.settling.proofs.WorkTraversal.{itemsOfGroup, work-traversal}
 
 -- one name
@@ -26,9 +25,7 @@ group-settled : (k : ℕ) (settings : ℕ → Settings) (tree : Tree) (chunks : 
 unfolding afterGroup
 group-settled k settings tree chunks g =
     let r = settings g in
-    let names = namesOf k r g tree in
-    ap (foldl (settled tree) chunks) (names-blocks r g tree names)
-    ∙ foldl-flatMap (settled tree) (afterName r g tree) (itemsOf r g tree) (name-settled r g tree) chunks names
+    foldl-flatMap (settled tree) (afterName r g tree) (itemsOf r g tree) (name-settled r g tree) chunks (namesOf k r g tree)
 
 pub list-by-groups : (b : Given) → foldl (settled (treeOf b)) [] (workList (b .shared .k) (allSettings b) (treeOf b)) ≡ allGroups b
 unfolding allSettings allGroups

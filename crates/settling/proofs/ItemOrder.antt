@@ -1,24 +1,25 @@
--- The items of one group stand in the order of the work list: names ascend, and for each name the subgroup numbers.
+-- The items of one group in the order of the work list: names ascend, and those of a name stand by the last tie.
 use Prim.Native.Nat.{ℕ, _<_}
 use mathlib.Core.Bool.{Bool, true, false}
-use mathlib.Core.List.{List, [], _∷_, _++_, flatMap, List·Memᴰ, List·Memᴰ·not-nil, List·Memᴰ·eq-of-singleton, Memᴰ·of-map}
+use mathlib.Core.List.{List, [], _∷_, _++_, flatMap, List·Memᴰ, List·Memᴰ·eq-of-singleton, Memᴰ·of-map}
 use mathlib.Core.Path.{_≡_, refl, sym, ap, _∙_, subst}
 use native.Mathlib.Omega.{arith}
 use borrow.Author.Tests.{lt-ltb, le-ltb}
 use lib.Dec.{ltb}
-use Rattle.lists.proofs.Sort.{Pairs, none, more, pairs-map, pairs-weaker, pairs-kept}
-use Rattle.joins.specs.Subgroup.{Subgroup}
+use Rattle.lists.specs.Sort.{sortBy}
+use Rattle.lists.proofs.Sort.{Pairs, pairs-weaker, pairs-kept}
 use Rattle.options.specs.declared.Settings.{Settings}
 use Rattle.grouping.specs.Tree.{Tree}
 use Rattle.grouping.specs.Item.{Item}
 use Rattle.grouping.specs.Sets.{named, setOf}
-use Rattle.grouping.specs.Subgroups.{mergedSubgroups, kindsAt, itemOfSubgroup, dividedItems}
-use Rattle.grouping.specs.WorkList.{lowerOr, comesFirst, itemsOfSet, itemsOfNames}
-use Rattle.settling.specs.Traversal.{namesOf, itemsOf}
-use Rattle.lists.proofs.Blocks.{pairs-flatMap}
-use Rattle.lists.proofs.FlatMap.{flatMap-mem}
-use Rattle.settling.proofs.SubgroupsAscend.{there-ascends}
-use Rattle.merge.proofs.NumbersAscend.{Lower}
+use Rattle.grouping.specs.Subgroups.{mergedSubgroups, kindsAt, dividedItems}
+use Rattle.grouping.specs.WorkList.{lowerOr, subgroupFirst, comesFirst, itemsOfSet, itemsOfNames}
+use Rattle.settling.specs.Traversal.{namesOf, inTurn, itemsOf}
+use Rattle.lists.proofs.FlatMap.{flatMap-mem, flatMap-same}
+use Rattle.lists.proofs.Orders.{number-order}
+use Rattle.lists.proofs.SortBlocks.{sort-blocks}
+use Rattle.lists.proofs.SortMap.{sort-same}
+use Rattle.lists.proofs.Sorted.{sorted-fixed}
 
 -- ---- an order by one number, and by what comes next
 
@@ -41,6 +42,10 @@ record OfName (r : Settings) (g n : ℕ) (i : Item) : Type 0 where
   of : Of r g i
   name : i .name ≡ n
 
+-- the items of one (group, name) as the set gives them
+abbrev pub blockOf : Settings → ℕ → Tree → ℕ → List Item
+blockOf r g tree name = itemsOfSet (r .«entries_aware») r g name tree (setOf r g tree name)
+
 module _ (r : Settings) (g : ℕ) (tree : Tree) where
   set-of : (aware : Bool) (name : ℕ) (places : List ℕ) (i : Item) → List·Memᴰ i (itemsOfSet aware r g name tree places) → OfName r g name i
   unfolding dividedItems
@@ -50,64 +55,62 @@ module _ (r : Settings) (g : ℕ) (tree : Tree) where
   set-of false name places i m =
       subst (OfName r g name) (sym (List·Memᴰ·eq-of-singleton m)) (record { of = record { settings = refl; group = refl }; name = refl })
 
-  name-of : (name : ℕ) (i : Item) → List·Memᴰ i (itemsOf r g tree name) → OfName r g name i
-  unfolding itemsOf
+  name-of : (name : ℕ) (i : Item) → List·Memᴰ i (blockOf r g tree name) → OfName r g name i
   name-of name i m = set-of (r .«entries_aware») name (setOf r g tree name) i m
 
   -- the items of names, name by name
-  pub names-blocks : (names : List ℕ) → itemsOfNames r g tree names ≡ flatMap (itemsOf r g tree) names
-  unfolding itemsOfNames itemsOf flatMap
+  names-blocks : (names : List ℕ) → itemsOfNames r g tree names ≡ flatMap (blockOf r g tree) names
+  unfolding itemsOfNames flatMap
   names-blocks [] = refl
-  names-blocks (name ∷ names) = ap (λ (l : List Item). itemsOf r g tree name ++ l) (names-blocks names)
+  names-blocks (name ∷ names) = ap (λ (l : List Item). blockOf r g tree name ++ l) (names-blocks names)
 
   pub names-of : (names : List ℕ) (i : Item) → List·Memᴰ i (itemsOfNames r g tree names) → Of r g i
   names-of names i m =
-      let s = flatMap-mem (itemsOf r g tree) names i (subst (λ (l : List Item). List·Memᴰ i l) (names-blocks names) m) in
+      let s = flatMap-mem (blockOf r g tree) names i (subst (λ (l : List Item). List·Memᴰ i l) (names-blocks names) m) in
       name-of (s .0) i (s .2) .of
 
   -- ---- in order
 
-  -- the second is not before the first
-  abbrev InOrder : Item → Item → Type 0
-  InOrder x y = comesFirst tree y x ≡ false
-
-  -- two items of the group: what decides are name and subgroup
-  same-group : (x y : Item) → Of r g x → Of r g y → comesFirst tree y x ≡ lowerOr (y .name) (x .name) (ltb (y .subgroup) (x .subgroup))
+  -- two items of the group: what decides are the name and the last tie
+  same-group : (x y : Item) → Of r g x → Of r g y → comesFirst tree y x ≡ lowerOr (y .name) (x .name) (subgroupFirst tree y x)
   unfolding comesFirst
   same-group x y p q =
-      let next : Bool = lowerOr (y .name) (x .name) (ltb (y .subgroup) (x .subgroup)) in
+      let next : Bool = lowerOr (y .name) (x .name) (subgroupFirst tree y x) in
       rw (p .settings, q .settings, p .group, q .group) (lowerOr-tie (r .priority) (lowerOr g g next) ∙ lowerOr-tie g next)
 
-  names-order : (a b : ℕ) → a < b → (x y : Item) → List·Memᴰ x (itemsOf r g tree a) → List·Memᴰ y (itemsOf r g tree b) → InOrder x y
-  names-order a b h x y i j =
+  -- items of two names are ordered as the names
+  as-names : (a b : ℕ) → a < b → (x y : Item) → List·Memᴰ x (blockOf r g tree a) → List·Memᴰ y (blockOf r g tree b) → comesFirst tree y x ≡ ltb b a
+  as-names a b h x y i j =
       let p = name-of a x i in
       let q = name-of b y j in
-      same-group x y (p .of) (q .of) ∙ lowerOr-above (y .name) (x .name) (ltb (y .subgroup) (x .subgroup)) (omega (arith, p .name, q .name))
+      same-group x y (p .of) (q .of)
+      ∙ lowerOr-above (y .name) (x .name) (subgroupFirst tree y x) (omega (arith, p .name, q .name))
+      ∙ sym (le-ltb b a (omega arith))
 
-  set-order : (aware : Bool) (name : ℕ) (places : List ℕ) → Pairs InOrder (itemsOfSet aware r g name tree places)
-  unfolding dividedItems
-  set-order true name places =
-      let kinds = kindsAt tree places in
-      let result = mergedSubgroups r tree places kinds in
-      let item : Subgroup → Item = itemOfSubgroup r g name tree places kinds (result .finals) in
-      pairs-map Lower InOrder item
-      (λ s t i j l.
-      same-group (item s) (item t) (record { settings = refl; group = refl }) (record { settings = refl; group = refl })
-      ∙ lowerOr-tie name (ltb (t .number) (s .number))
-      ∙ le-ltb (t .number) (s .number) (omega arith))
-      (there-ascends r tree places kinds)
-  set-order false name places = more (λ y m. absurd (List·Memᴰ·not-nil m)) none
+  -- items of one name are ordered by the last tie
+  same-name : (name : ℕ) (x y : Item) → List·Memᴰ x (blockOf r g tree name) → List·Memᴰ y (blockOf r g tree name)
+      → comesFirst tree x y ≡ subgroupFirst tree x y
+  same-name name x y i j =
+      let p = name-of name x i in
+      let q = name-of name y j in
+      same-group y x (q .of) (p .of)
+      ∙ ap (λ (n : ℕ). lowerOr n (y .name) (subgroupFirst tree x y)) (p .name ∙ sym (q .name))
+      ∙ lowerOr-tie (y .name) (subgroupFirst tree x y)
 
-  name-order : (name : ℕ) → Pairs InOrder (itemsOf r g tree name)
-  unfolding itemsOf
-  name-order name = set-order (r .«entries_aware») name (setOf r g tree name)
+  name-sorted : (name : ℕ) → sortBy (comesFirst tree) (blockOf r g tree name) ≡ itemsOf r g tree name
+  unfolding itemsOf inTurn
+  name-sorted name = sort-same (comesFirst tree) (subgroupFirst tree) (blockOf r g tree name) (same-name name)
 
   names-ascend : (k : ℕ) → Pairs (λ a b. a < b) (namesOf k r g tree)
   unfolding namesOf
   names-ascend k = pairs-kept (λ a b. a < b) (named r g tree) 0 k (λ a b h l p q. h)
 
-  pub group-order : (k : ℕ) → Pairs InOrder (itemsOfNames r g tree (namesOf k r g tree))
-  group-order k =
+  pub group-sorted : (k : ℕ) → sortBy (comesFirst tree) (itemsOfNames r g tree (namesOf k r g tree)) ≡ flatMap (itemsOf r g tree) (namesOf k r g tree)
+  group-sorted k =
       let names = namesOf k r g tree in
-      subst (Pairs InOrder) (sym (names-blocks names))
-      (pairs-flatMap (itemsOf r g tree) (λ name m. name-order name) (pairs-weaker names-order (names-ascend k)))
+      let block : ℕ → List Item = blockOf r g tree in
+      let sorted : ℕ → List Item = λ name. sortBy (comesFirst tree) (block name) in
+      ap (sortBy (comesFirst tree)) (names-blocks names)
+      ∙ sort-blocks (comesFirst tree) ltb block number-order (pairs-weaker as-names (names-ascend k))
+      ∙ ap (flatMap sorted) (sorted-fixed ltb (pairs-weaker (λ a b h. le-ltb b a (omega arith)) (names-ascend k)))
+      ∙ flatMap-same sorted (itemsOf r g tree) names (λ name m. name-sorted name)

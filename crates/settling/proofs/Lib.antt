@@ -4,7 +4,6 @@ pub mod EndsHold
 pub mod TurnsOfItem
 pub mod ChunksSettled
 pub mod SettledChunks
-pub mod SubgroupsAscend
 pub mod ItemOrder
 pub mod WorkTraversal
 pub mod ByGroups

@@ -1,9 +1,8 @@
 -- The id order of a part of an item's id order is that part: sorting is stable, so that keeping places commutes with sorting them.
 use Prim.Native.Nat.{ℕ}
-use mathlib.Core.Bool.{Bool, true, false, _&&_, and-false, true≢false}
+use mathlib.Core.Bool.{Bool, true, false, _&&_, and-false}
 use mathlib.Core.List.{List, List·Memᴰ, List·Permᴰ}
-use mathlib.Core.Logic.{⊎-elim}
-use mathlib.Core.Path.{_≡_, refl, sym, ap, _∙_, subst}
+use mathlib.Core.Path.{_≡_, refl, sym, _∙_, subst}
 use native.Mathlib.Omega.{arith}
 use lib.ListN.{length}
 use Rattle.lists.specs.Elem.{elem}
@@ -12,26 +11,15 @@ use Rattle.lists.proofs.Elem.{elem-mem, mem-elem}
 use Rattle.lists.proofs.Rearranged.{sort-perm, perm-pairs, perm-length}
 use Rattle.lists.proofs.Sort.{pairs-weaker, sort-mem, mem-sort}
 use Rattle.ids.specs.Order.{before}
-use Rattle.ids.proofs.ByteOrder.{before-irrefl, before-trans, before-total}
+use Rattle.ids.proofs.ByteOrder.{before-irrefl, before-trans}
 use Rattle.grouping.specs.Tree.{Tree, memberAt}
 use Rattle.grouping.specs.Fate.{inIdOrder, among}
 use Rattle.grouping_laws.proofs.Pieces.{Ascending}
+use Rattle.grouping_laws.proofs.SmallestIds.{before-negation}
 use Rattle.lists.proofs.KeepTests.{keep-keep, keep-same}
 use Rattle.lists.proofs.SortKeep.{sort-keep}
 use Rattle.lists.proofs.Sorted.{WeakOrder}
 use Rattle.settling.proofs.Parts.{PartOf, part-kept}
-
-before-negation : (a b c : List ℕ) → before a b ≡ false → before b c ≡ false → before a c ≡ false
-before-negation a b c p q = go (before a c) refl
-  where
-    go : (t : Bool) → before a c ≡ t → t ≡ false
-    go false e = refl
-    go true e =
-        absurd
-        (⊎-elim
-        (λ s. true≢false (sym e ∙ ap (λ (x : List ℕ). before x c) s ∙ q))
-        (⊎-elim (λ s. true≢false (sym s ∙ p)) (λ s. true≢false (sym (before-trans b a c s e) ∙ q)))
-        (before-total a b))
 
 module _ (tree : Tree) where
   -- the order of places by their ids

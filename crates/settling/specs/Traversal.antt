@@ -1,4 +1,4 @@
--- The order in which a run comes to the items: group by group, in each group name by name.
+-- The order in which a run comes to the items: group by group, in each group name by name, and those of a name by the last tie.
 use Prim.Native.Nat.{ℕ}
 use mathlib.Core.Bool.{Bool}
 use mathlib.Core.List.{List, [], foldl}
@@ -12,7 +12,7 @@ use Rattle.grouping.specs.Settings.{settingsOf}
 use Rattle.grouping.specs.Tree.{Tree, treeOf}
 use Rattle.grouping.specs.Item.{Item}
 use Rattle.grouping.specs.Sets.{named, setOf}
-use Rattle.grouping.specs.WorkList.{lowerOr, itemsOfSet}
+use Rattle.grouping.specs.WorkList.{lowerOr, subgroupFirst, itemsOfSet}
 use Rattle.grouping.specs.ChunkList.{Chunk}
 use Rattle.settling.specs.Settled.{settled}
 
@@ -30,10 +30,15 @@ unfoldable pub namesOf : ℕ → Settings → ℕ → Tree → List ℕ
 unfolding keep named range
 namesOf k r g tree = keep (named r g tree) (range 0 k)
 
--- the items of one (group, name)
+-- items of one (group, name) in the order of their turns
+unfoldable pub inTurn : Tree → List Item → List Item
+unfolding sortBy subgroupFirst
+inTurn tree items = sortBy (subgroupFirst tree) items
+
+-- the items of one (group, name), in that order
 unfoldable pub itemsOf : Settings → ℕ → Tree → ℕ → List Item
-unfolding setOf
-itemsOf r g tree name = itemsOfSet (r .«entries_aware») r g name tree (setOf r g tree name)
+unfolding inTurn setOf
+itemsOf r g tree name = inTurn tree (itemsOfSet (r .«entries_aware») r g name tree (setOf r g tree name))
 
 -- the chunks after the items of one name more
 unfoldable pub afterName : Settings → ℕ → Tree → List Chunk → ℕ → List Chunk

@@ -1,9 +1,9 @@
--- The items of an entries-aware set are the runs of its divided positions: the number of each, its bits and its modules.
+-- The items of an entries-aware set are the subgroups that are still there: the number of each, its bits and its modules.
 use Prim.Native.Nat.{ℕ, _*_, _^_, _<_, _≤_}
 use mathlib.Core.Bool.{Bool}
 use mathlib.Core.List.{List, map, map-map, List·Memᴰ}
 use mathlib.Core.Option.{some}
-use mathlib.Core.Path.{_≡_, sym, ap, _∙_, subst}
+use mathlib.Core.Path.{_≡_, sym, ap, _∙_}
 use native.Mathlib.Omega.{arith}
 use lib.Dec.{eqb}
 use lib.ListN.{length, getD, take, length-map}
@@ -23,15 +23,15 @@ use Rattle.grouping.specs.Subgroups.{kindNumber, mergedSubgroups, placesEnded, 
 use Rattle.settling.specs.Modules.{moduleAt, modulesAt}
 use Rattle.subgroups.specs.Kinds.{kindsIn, kindOfModule, sizesOf}
 use Rattle.subgroups.specs.Merged.{mergedKinds, Processed}
-use Rattle.subgroups.specs.Items.{subgroupsIn, modulesIn, itemNumbered}
+use Rattle.subgroups.specs.Items.{modulesIn, itemNumbered}
 use Rattle.subgroups.proofs.Merging.{row-take}
 use Rattle.subgroups.proofs.ByPlace.{bits-at, kinds-are, merged-is}
-use Rattle.subgroups.proofs.Numbered.{there-are, still-below, runs-are}
+use Rattle.subgroups.proofs.Numbered.{still, there-are, still-below}
 use Rattle.subgroups.proofs.RunModules.{modules-are}
 
 module _ (b : Given) (places : List ℕ) (inside : (p : ℕ) → List·Memᴰ p places → p < length (placesOf b)) (few : length places ≤ 4096)
     (r : Settings) (exact : sum (sizesOf (b .shared .sizes) (modulesAt b places)) ≤ 2 ^ 53)
-    (kind-bits order : List ℕ) (done : Processed (b .shared .bits) (b .shared .sizes) (modulesAt b places) (r .threshold) kind-bits order) where
+    (rank kind-bits order : List ℕ) (done : Processed (b .shared .bits) (b .shared .sizes) (modulesAt b places) rank (r .threshold) kind-bits order) where
   abbrev set : List ℕ
   set = modulesAt b places
 
@@ -44,14 +44,15 @@ module _ (b : Given) (places : List ℕ) (inside : (p : ℕ) → List·Memᴰ p 
   abbrev result : Merging
   result = mergedSubgroups r tree places (kindsAt tree places)
 
-  few-modules : length set ≤ 4096
+  pub few-modules : length set ≤ 4096
   few-modules = omega (arith, length-map places (moduleAt b))
 
   same : mergedKinds bits (b .shared .sizes) set (r .threshold) ≡ result
   same = merged-is b places inside r exact
 
-  abbrev still : List ℕ
-  still = subgroupsIn order
+  -- the numbers of the subgroups that are still there
+  abbrev pub there : List ℕ
+  there = still bits (b .shared .sizes) set rank few-modules (r .threshold) kind-bits order done
 
   -- how many kinds there are
   abbrev count : ℕ
@@ -61,30 +62,22 @@ module _ (b : Given) (places : List ℕ) (inside : (p : ℕ) → List·Memᴰ p 
   abbrev at : ℕ → Subgroup
   at = subgroupAt (finalSizes count (mergedKinds bits (b .shared .sizes) set (r .threshold))) (take (4 * count) kind-bits)
 
-  there : result .there ≡ map at still
-  there =
-      sym (ap (λ (m : Merging). m .there) same)
-      ∙ there-are bits (b .shared .sizes) set few-modules (r .threshold) kind-bits order done
-      ∙ ap (map at)
-      (sym (runs-are bits (b .shared .sizes) set few-modules (r .threshold) kind-bits order done))
+  subgroups-are : result .there ≡ map at there
+  subgroups-are =
+      sym (ap (λ (m : Merging). m .there) same) ∙ there-are bits (b .shared .sizes) set rank few-modules (r .threshold) kind-bits order done
 
-  -- a subgroup that a run meets is one of the count
-  pub run-below : (s : ℕ) → List·Memᴰ s (subgroupsIn order) → s < length (kindsIn (b .shared .bits) (modulesAt b places))
-  run-below s m =
-      still-below bits (b .shared .sizes) set few-modules (r .threshold) kind-bits order done s
-      (subst (λ l. List·Memᴰ s l) (runs-are bits (b .shared .sizes) set few-modules (r .threshold) kind-bits order done) m)
-
-  pub divided-items : (g name : ℕ) → dividedItems r g name tree places ≡ map (itemNumbered r g name tree places kind-bits) (subgroupsIn order)
+  pub divided-items : (g name : ℕ) → dividedItems r g name tree places ≡ map (itemNumbered r g name tree places kind-bits) there
   unfolding dividedItems subgroupAt
   divided-items g name =
       let made : Subgroup → Item = itemOfSubgroup r g name tree places (kindsAt tree places) (result .finals) in
-      ap (map made) there
-      ∙ map-map made at still
-      ∙ map-same (λ s. made (at s)) (itemNumbered r g name tree places kind-bits) still
+      ap (map made) subgroups-are
+      ∙ map-map made at there
+      ∙ map-same (λ s. made (at s)) (itemNumbered r g name tree places kind-bits) there
       (λ s m.
       ap {B = Item} (λ (x : BitSet). record
       { group = g; name = name; subgroup = s; settings = r; bits = some x; places = placesEnded tree places (kindsAt tree places) (result .finals) s })
-      (row-take (4 * count) kind-bits s (omega (arith, run-below s m))))
+      (row-take (4 * count) kind-bits s
+      (omega (arith, still-below bits (b .shared .sizes) set rank few-modules (r .threshold) kind-bits order done s m))))
 
   -- the item's modules are those of the run
   pub item-modules : (g name s : ℕ) → modulesAt b (itemNumbered r g name tree places kind-bits s .places) ≡ modulesIn set order s
@@ -100,4 +93,4 @@ module _ (b : Given) (places : List ℕ) (inside : (p : ℕ) → List·Memᴰ p 
       ∙ ap (λ (w : Merging). eqb (getD (w .finals) (kindOfModule bits (kindsIn bits set) (moduleAt b p)) 0) s) (sym same) in
       ap (map (moduleAt b)) (keep-same by-place (λ p. ends (moduleAt b p)) places agree)
       ∙ sym (keep-map ends (moduleAt b) places)
-      ∙ sym (modules-are bits (b .shared .sizes) set few-modules (r .threshold) kind-bits order done s)
+      ∙ sym (modules-are bits (b .shared .sizes) set rank few-modules (r .threshold) kind-bits order done s)

@@ -8,10 +8,11 @@ pub mod KindSizes
 pub mod Counting
 pub mod Turning
 pub mod Positions
-pub mod KeysHeld
 pub mod FinalState
 pub mod Merging
 pub mod ByPlace
 pub mod Numbered
 pub mod RunModules
+pub mod TurnOrder
 pub mod DividedItems
+pub mod ItemsInTurn

@@ -5,17 +5,17 @@ use mathlib.Core.List.{List, [], _∷_, _++_, map}
 use mathlib.Core.Path.{_≡_, refl, sym, ap, ap₂, _∙_}
 use native.Mathlib.Nat.{zero-add}
 use native.Mathlib.Omega.{arith}
-use lib.Dec.{ltb}
 use lib.Ieee.{Float}
 use lib.ListN.{length, getD, take, drop, length-map, length-append, List·getD-append}
 use lib.Seq.{length-take-le, take-at, take-take}
 use Rattle.lists.specs.Keep.{keep}
 use Rattle.lists.specs.Range.{range}
-use Rattle.lists.specs.Sort.{sortBy}
 use Rattle.lists.proofs.KeepLength.{keep-le}
 use Rattle.lists.proofs.Map.{getD-map-below}
 use Rattle.lists.proofs.Position.{getD-mem}
 use Rattle.lists.proofs.Range.{length-range, getD-range, map-range}
+use Rattle.division.specs.Divided.{divided, Divisible}
+use Rattle.division.proofs.SameNumbers.{divided-same}
 use Rattle.whole.specs.Double.{toF64}
 use Rattle.bitset.specs.Entries.{empty, rowOf}
 use Rattle.bitset.specs.declared.entries.BitSet.{BitSet}
@@ -27,7 +27,7 @@ use Rattle.merge.proofs.Laws.{final-below}
 use Rattle.grouping.specs.Subgroups.{sameBits, kindsOf}
 use Rattle.subgroups.specs.Kinds.{rowsOf, kindsIn, kindOfModule, sizeOfKind}
 use Rattle.subgroups.specs.Finding.{Members, KindsFound}
-use Rattle.subgroups.specs.Merged.{subgroupOfKind, mergedKinds, positionKey, positionKeys, divided, Divisible, Processed}
+use Rattle.subgroups.specs.Merged.{subgroupOfKind, mergedKinds, Ranked, Processed}
 use Rattle.subgroups.proofs.Counting.{has-own}
 use Rattle.subgroups.proofs.Entering.{length-rows}
 use Rattle.subgroups.proofs.FinalState.{final-state}
@@ -123,32 +123,36 @@ module _ (bits sizes set : List ℕ) (given : Members bits sizes set) (threshold
       read : (k : ℕ) → k < r → getD (n ++ rest) k 0 ≡ getD n k 0
       read k h = List·getD-append n rest 0 k (omega arith)
 
-      pub can-divide : Divisible (n ++ rest) kind-of
-      can-divide = record {
-        count = omega (arith, ap length (found .numbers), length-map set (kindOfModule bits kinds), given .count);
-        has-final = λ i h. omega (arith, kind-at i h, length-append n rest);
-        small = λ i h. let k = kind-at i h in omega (arith, below (getD kind-of i 0) k, read (getD kind-of i 0) k, few, given .count);
-      }
-
-      order-is : divided (n ++ rest) kind-of ≡ divided (mergedKinds bits sizes set threshold .finals) (map (kindOfModule bits kinds) set)
-      unfolding divided
-      order-is =
-          ap (sortBy ltb)
-          (map-range (positionKey (n ++ rest) kind-of) (positionKey n kind-of) 0 (length kind-of)
-          (λ i h. ap (λ (v : ℕ). v * 4096 + (0 + i)) (read (getD kind-of (0 + i) 0) (kind-at (0 + i) (omega arith))))
-          ∙ ap₂ positionKeys numbers-are (found .numbers))
-
       sizes-are : z ≡ finalSizes (length kinds) (mergedKinds bits sizes set threshold)
       sizes-are = final .final-sizes ∙ ap₂ finalSizes (same ∙ count) result
 
-      pub processed : (rest-bits order : List ℕ) → length b ≡ 4 * r → order ≡ divided (n ++ rest) kind-of
-          → Processed bits sizes set threshold (b ++ rest-bits) order
-      processed rest-bits order length-b e =
-          let rows : List ℕ = take (4 * length kinds) (b ++ rest-bits) in
-          record {
-            state =
-                ap₂ (λ (n z : List ℕ). stateOf n z rows) (sym numbers-are) (sym sizes-are)
-                ∙ ap (stateOf n z) (ap (λ (k : ℕ). take (4 * k) (b ++ rest-bits)) (sym count) ∙ take-at b rest-bits (4 * r) length-b)
-                ∙ state-is;
-            order-is = e ∙ order-is;
-          }
+      module _ (rank : List ℕ) (ranked : Ranked rank set) where
+        same-count : length kind-of ≡ length set
+        same-count = ap length (found .numbers) ∙ length-map set (kindOfModule bits kinds)
+
+        pub can-divide : Divisible (n ++ rest) kind-of set rank
+        can-divide = record {
+          count = omega (arith, same-count, given .count);
+          modules = sym same-count;
+          has-final = λ i h. omega (arith, kind-at i h, length-append n rest);
+          below = λ i h. let k = kind-at i h in omega (arith, below (getD kind-of i 0) k, read (getD kind-of i 0) k, few, same-count);
+          has-rank = λ i h. ranked i (omega (arith, same-count));
+        }
+
+        order-is : divided (n ++ rest) kind-of set rank
+            ≡ divided (mergedKinds bits sizes set threshold .finals) (map (kindOfModule bits kinds) set) set rank
+        order-is =
+            divided-same (n ++ rest) n kind-of set rank (λ i h. read (getD kind-of i 0) (kind-at i h))
+            ∙ ap₂ (λ (f l : List ℕ). divided f l set rank) numbers-are (found .numbers)
+
+        pub processed : (rest-bits order : List ℕ) → length b ≡ 4 * r → order ≡ divided (n ++ rest) kind-of set rank
+            → Processed bits sizes set rank threshold (b ++ rest-bits) order
+        processed rest-bits order length-b e =
+            let rows : List ℕ = take (4 * length kinds) (b ++ rest-bits) in
+            record {
+              state =
+                  ap₂ (λ (n z : List ℕ). stateOf n z rows) (sym numbers-are) (sym sizes-are)
+                  ∙ ap (stateOf n z) (ap (λ (k : ℕ). take (4 * k) (b ++ rest-bits)) (sym count) ∙ take-at b rest-bits (4 * r) length-b)
+                  ∙ state-is;
+              order-is = e ∙ order-is;
+            }

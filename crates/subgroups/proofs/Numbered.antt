@@ -1,24 +1,17 @@
--- The numbers that a run over the divided positions meets are those of the subgroups that are still there.
+-- The number that each position ends as is that of a subgroup that is still there, and each of these has a position.
 use Prim.Native.Nat.{ℕ, _*_, _<_, _≤_}
-use mathlib.Core.Bool.{true}
 use mathlib.Core.List.{List, map, List·Memᴰ, Memᴰ·map, Memᴰ·of-map, Memᴰ·cast}
 use mathlib.Core.Path.{_≡_, refl, sym, ap, _∙_, subst}
 use native.Mathlib.Omega.{arith}
-use borrow.Author.Tests.{eqb-true, lt-ltb}
-use lib.Dec.{ltb}
+use borrow.Author.Tests.{eqb-true}
 use lib.Ieee.{Float}
 use lib.ListN.{length, getD, take, length-map}
 use Rattle.lists.specs.Keep.{keep}
-use Rattle.lists.specs.Keys.{keysIn}
-use Rattle.lists.specs.Packed.{keyOf}
 use Rattle.lists.specs.Range.{range}
-use Rattle.lists.proofs.Keys.{keys-mem, mem-keys, keys-rise}
 use Rattle.lists.proofs.Map.{getD-map-below}
-use Rattle.lists.proofs.Members.{keep-mem, range-mem, mem-range}
-use Rattle.lists.proofs.Packed.{packed-keys}
+use Rattle.lists.proofs.Members.{keep-mem, range-mem}
 use Rattle.lists.proofs.Position.{getD-mem, mem-getD}
 use Rattle.lists.proofs.Range.{length-range}
-use Rattle.lists.proofs.Sort.{keys-same, pairs-kept}
 use Rattle.bitset.specs.Entries.{empty, rowOf}
 use Rattle.bitset.specs.declared.entries.BitSet.{BitSet}
 use Rattle.joins.specs.Subgroup.{Subgroup}
@@ -29,15 +22,14 @@ use Rattle.grouping.specs.Subgroups.{sameBits}
 use Rattle.grouping_laws.proofs.BitKinds.{same-refl, kind-in}
 use Rattle.merge.proofs.FinalNumbers.{Ended, merged-ended}
 use Rattle.subgroups.specs.Kinds.{kindsIn, kindOfModule}
-use Rattle.subgroups.specs.Merged.{subgroupOfKind, mergedKinds, divided, Processed}
-use Rattle.subgroups.specs.Items.{subgroupsIn}
+use Rattle.subgroups.specs.Merged.{subgroupOfKind, mergedKinds, Processed}
 use Rattle.subgroups.proofs.Counting.{has-own}
 use Rattle.subgroups.proofs.Merging.{kinds-few}
 use Rattle.subgroups.proofs.OneMore.{number-less}
 use Rattle.subgroups.proofs.Positions.{kind-at}
 
-module _ (bits sizes set : List ℕ) (few : length set ≤ 4096) (threshold : Float) (kind-bits order : List ℕ)
-    (done : Processed bits sizes set threshold kind-bits order) where
+module _ (bits sizes set rank : List ℕ) (few : length set ≤ 4096) (threshold : Float) (kind-bits order : List ℕ)
+    (done : Processed bits sizes set rank threshold kind-bits order) where
   abbrev kinds : List BitSet
   kinds = kindsIn bits set
 
@@ -51,7 +43,7 @@ module _ (bits sizes set : List ℕ) (few : length set ≤ 4096) (threshold : Fl
   abbrev key : ℕ → ℕ
   key i = getD numbers (getD (map (kindOfModule bits kinds) set) i 0) 0
 
-  abbrev still : List ℕ
+  abbrev pub still : List ℕ
   still = keep (isThere numbers) (range 0 (length numbers))
 
   -- ---- the merge
@@ -105,8 +97,8 @@ module _ (bits sizes set : List ℕ) (few : length set ≤ 4096) (threshold : Fl
       final-still (key i) (Memᴰ·cast (key-is i h) (getD-mem numbers (kindOfModule bits kinds m) 0 k))
 
   -- a subgroup that is still there has a position: that of a module of its own kind
-  position-of : (s : ℕ) → List·Memᴰ s still → (i : ℕ) × (i < length set) × (key i ≡ s)
-  position-of s m =
+  pub has-position : (s : ℕ) → List·Memᴰ s still → (i : ℕ) × (i < length set) × (key i ≡ s)
+  has-position s m =
       let e : getD numbers s 0 ≡ s = eqb-true (getD numbers s 0) s (keep-mem (isThere numbers) (range 0 (length numbers)) s m .1) in
       let w : s < length kinds = still-below s m in
       let o = Memᴰ·of-map (rowOf bits) set (kind-in (length set) (map (rowOf bits) set) (getD kinds s empty) (getD-mem kinds s empty w)) in
@@ -116,29 +108,5 @@ module _ (bits sizes set : List ℕ) (few : length set ≤ 4096) (threshold : Fl
       ∙ ap (sameBits (getD kinds s empty)) (o .2) ∙ same-refl (getD kinds s empty)) in
       (at .0, at .1, key-is (at .0) (at .1) ∙ ap (λ (n : ℕ). getD numbers (kindOfModule bits kinds n) 0) (at .2) ∙ ap (λ (k : ℕ). getD numbers k 0) own ∙ e)
 
-  small : (i : ℕ) → List·Memᴰ i (range 0 (length (map (kindOfModule bits kinds) set))) → i < 4096
-  small i m = let w = range-mem 0 (length (map (kindOfModule bits kinds) set)) i m in omega (arith, length-numbers)
-
   pub at-most : length kinds ≤ length set
   at-most = omega (arith, kinds-few (length set) (map (rowOf bits) set), length-map set (rowOf bits))
-
-  -- a run over the order meets the numbers that are still there
-  pub runs-are : subgroupsIn order ≡ still
-  unfolding divided
-  runs-are =
-      ap (keysIn keyOf 4096) (done .order-is)
-      ∙ packed-keys key positions small 4096
-      ∙ keys-same (λ n. n) (keysIn key 4096 positions) still (keys-rise key 4096 positions)
-      (pairs-kept (λ j k. ltb j k ≡ true) (isThere numbers) 0 (length numbers) (λ j k h u p q. lt-ltb j k h))
-      (λ s m. let o = keys-mem key 4096 positions s m .1 in Memᴰ·cast (sym (o .2)) (key-still (o .0) (within (o .0) (o .1))))
-      (λ s m.
-      let o = position-of s m in
-      Memᴰ·cast (sym (o .2)) (mem-keys key 4096 (o .0)
-      (mem-range 0 (length (map (kindOfModule bits kinds) set)) (o .0) (omega arith) (omega (arith, length-numbers)))
-      (omega (arith, o .2, still-below s m, at-most))))
-    where
-      positions : List ℕ
-      positions = range 0 (length (map (kindOfModule bits kinds) set))
-
-      within : (i : ℕ) → List·Memᴰ i (range 0 (length (map (kindOfModule bits kinds) set))) → i < length set
-      within i m = let w = range-mem 0 (length (map (kindOfModule bits kinds) set)) i m in omega (arith, length-numbers)

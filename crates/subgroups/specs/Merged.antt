@@ -2,12 +2,10 @@
 use Prim.Native.Nat.{ℕ, _*_, _<_, _≤_}
 use mathlib.Core.List.{List, map}
 use mathlib.Core.Path.{_≡_}
-use lib.Dec.{ltb}
 use lib.Ieee.{Float}
 use lib.ListN.{length, getD, take}
-use Rattle.lists.specs.Packed.{packed}
 use Rattle.lists.specs.Range.{range}
-use Rattle.lists.specs.Sort.{sortBy}
+use Rattle.division.specs.Divided.{divided}
 use Rattle.whole.specs.Double.{toF64}
 use Rattle.bitset.specs.Entries.{empty}
 use Rattle.joins.specs.Subgroup.{Subgroup}
@@ -29,29 +27,9 @@ mergedKinds bits sizes set threshold =
     let count = length (kindsIn bits set) in
     merged threshold (record { there = map (subgroupOfKind bits sizes set) (range 0 count); finals = range 0 count })
 
--- position i with the number that its kind has ended as
-abbrev pub positionKey : List ℕ → List ℕ → ℕ → ℕ
-positionKey finals kind-of i = packed (getD finals (getD kind-of i 0) 0) i
-
-abbrev pub positionKeys : List ℕ → List ℕ → List ℕ
-positionKeys finals kind-of = map (positionKey finals kind-of) (range 0 (length kind-of))
-
--- the positions by that number, each number's in execution order
-unfoldable pub divided : List ℕ → List ℕ → List ℕ
-unfolding sortBy range
-divided finals kind-of = sortBy ltb (positionKeys finals kind-of)
-
--- at most 4,096 positions, and each one's kind has ended as a number below 4,096
-pub record Divisible (finals kind-of : List ℕ) : Type 0 where
-  pub count : length kind-of ≤ 4096
-  pub has-final : (i : ℕ) → i < length kind-of → getD kind-of i 0 < length finals
-  pub small : (i : ℕ) → i < length kind-of → getD finals (getD kind-of i 0) 0 < 4096
-
--- the areas of a division of n positions
-pub record DivisionRoom (n : ℕ) (keys spare order : List ℕ) : Type 0 where
-  pub keys-fit : length keys ≡ n
-  pub spare-room : n ≤ length spare
-  pub order-fits : length order ≡ n
+-- each module of the set has a rank
+abbrev pub Ranked : List ℕ → List ℕ → Type 0
+Ranked rank set = (i : ℕ) → i < length set → getD set i 0 < length rank
 
 -- a row of bits for each of n modules, and a number for each
 pub record ProcessRoom (n : ℕ) (rows order : List ℕ) : Type 0 where
@@ -64,7 +42,7 @@ stateWith bits set m rows =
     let count = length (kindsIn bits set) in
     stateOf (m .finals) (finalSizes count m) (take (4 * count) rows)
 
--- Afterwards: the rows hold the united bits that the merge of the set's kinds ends with, and the order is the division by its final numbers.
-pub record Processed (bits sizes set : List ℕ) (threshold : Float) (rows order : List ℕ) : Type 0 where
+-- Afterwards: the rows hold the united bits that the merge of the set's kinds ends with, and the order is the division by its final numbers and by ranks.
+pub record Processed (bits sizes set rank : List ℕ) (threshold : Float) (rows order : List ℕ) : Type 0 where
   pub state : stateWith bits set (mergedKinds bits sizes set threshold) rows ≡ mergedKinds bits sizes set threshold
-  pub order-is : order ≡ divided (mergedKinds bits sizes set threshold .finals) (map (kindOfModule bits (kindsIn bits set)) set)
+  pub order-is : order ≡ divided (mergedKinds bits sizes set threshold .finals) (map (kindOfModule bits (kindsIn bits set)) set) set rank

@@ -2,20 +2,22 @@
 use crate::stages::run_stages;
 ghost use lib.ListN.{length};
 ghost use Rattle.subgroups.specs.Finding.{Members};
-ghost use Rattle.subgroups.specs.Merged.{ProcessRoom, Processed};
+ghost use Rattle.subgroups.specs.Merged.{Ranked, ProcessRoom, Processed};
 
-// Divides an entries-aware set by equal entry bits, merges the subgroups, and lists the positions by the subgroup that each ends in. The rows are those
-// of the subgroups' united bits. The other tables are gone before the subgroups have their turns, which need room on the stack themselves.
+// Divides an entries-aware set by equal entry bits, merges the subgroups, and lists the positions by the subgroup that each ends in, subgroups by the
+// lowest rank in them. The rows are those of the subgroups' united bits. The other tables are gone before the subgroups have their turns, which need room on the stack themselves.
 pub fn process_entries_aware_group(
     bits: &[u64],
     sizes: &[u64],
     set: &[u32],
+    rank: &[u32],
     threshold: f64,
     kind_bits: &mut [u64],
     order: &mut [u32],
 )
-    requires { ⌜ Members (now bits) (now sizes) (now set) × ProcessRoom (length (now set)) (now «kind_bits») (now order) ⌝ }
-    ensures { λ _. ⌜ Processed (now (bits .entry)) (now (sizes .entry)) (now (set .entry)) threshold
+    requires { ⌜ Members (now bits) (now sizes) (now set) × ProcessRoom (length (now set)) (now «kind_bits») (now order)
+        × Ranked (now rank) (now set) ⌝ }
+    ensures { λ _. ⌜ Processed (now (bits .entry)) (now (sizes .entry)) (now (set .entry)) (now (rank .entry)) threshold
         (now («kind_bits» .exit)) (now (order .exit)) ⌝ }
 {
     let count = set.len();
@@ -26,6 +28,7 @@ pub fn process_entries_aware_group(
         bits,
         sizes,
         set,
+        rank,
         threshold,
         &mut kind_of[..count],
         &mut kind_sizes,

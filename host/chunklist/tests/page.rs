@@ -160,6 +160,7 @@ fn what_was_dropped_cut_or_left_is_told_as_not_proved() {
         "vendor / vendor-polyfill was dropped: 3072 bytes, min_size 8192.",
         "themes / theme-contrast was dropped: 4096 bytes, min_size 8192.",
         "It, of 67584 bytes, was cut into 37888 and 29696, in id order.",
+        "by their smallest ids at the start; its own is widgets/date/calendar.js.",
     ] {
         let (before, _) = html.split_once(line).unwrap_or_else(|| panic!("{line}"));
         let mark = before.rfind("host's reading, not proved").expect("a mark");

@@ -1,6 +1,6 @@
 //! The recorded corpus: small cases that tell, chosen by the faults they notice and the kinds
-//! they show, with the crate's answers under document 01's order; and cases that notice faults of
-//! the reading of document 01.
+//! they show, with the crate's answers under the papers' order; and cases that tell the order of
+//! subgroups or notice faults of the reading of the papers.
 //!
 //! Three pairs of files: `leaves.txt` and `builds.txt` with the crate's answers in
 //! `leaves.answers.txt` and `builds.answers.txt`, and `refusals.txt`, whose answers follow from
@@ -57,11 +57,12 @@ pub fn write(folder: &Path, check: bool) -> Result<bool, String> {
     let leaves =
         [Call::Similarity, Call::Cut, Call::Capture, Call::Filter, Call::Merge, Call::Name];
     let (mut builds, mut refusals) = (recorded(&[Call::Chunks]), refusals());
+    reading::add_orders(&mut builds);
     reading::complete(&mut builds, &mut refusals);
     let mut files = Vec::new();
     for (name, origin, pair) in [
         ("leaves", "the crate's own text", recorded(&leaves)),
-        ("builds", "the crate's own text under document 01's order", builds),
+        ("builds", "the crate's own text under the papers' order", builds),
         ("refusals", "the tables of refusals of documents 01 and 02", refusals),
     ] {
         let head = format!("# Made by `differ corpus`. The answers are those of {origin}.\n");
@@ -157,7 +158,7 @@ fn candidates(call: Call) -> Vec<Candidate> {
 /// A question with the crate's answer, if document 01 accepts it; the two have to agree.
 fn answered(question: Question) -> Option<Candidate> {
     let (question, response) = accepted(question)?;
-    assert!(response == Reference.respond(&question), "the crate and document 01 disagree");
+    assert!(response == Reference.respond(&question), "the crate and the reading disagree");
     Some(Candidate::new(question, response))
 }
 

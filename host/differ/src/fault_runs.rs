@@ -93,9 +93,16 @@ fn questions(call: Call, seed: u64, cases: u64) -> Vec<Known> {
     let mut short = Vec::new();
     generate::exhaustive(call, &mut |question| short.push(question));
     let step = (short.len() as u64 / cases.max(1)).max(1);
-    questions.extend(short.into_iter().step_by(step as usize));
+    questions.extend(one_of_each(step as usize, &short, seed));
     questions.extend((0..cases).map(|case| generate::random(call, &mut Rng::for_case(seed, case))));
     questions.into_iter().filter_map(accepted).map(known).collect()
+}
+
+/// One of each so many questions, drawn: a fixed step may meet an inner loop at the same turn each
+/// time.
+fn one_of_each(step: usize, short: &[Question], seed: u64) -> impl Iterator<Item = Question> {
+    let mut rng = Rng::for_case(seed, u64::MAX);
+    short.chunks(step).map(move |stretch| stretch[rng.at(stretch.len())].clone())
 }
 
 /// Has the library answer too.

@@ -1,4 +1,4 @@
-//! Deliberate faults of the reading of document 01, held against the recorded builds and refusals.
+//! Deliberate faults of the reading of the papers, held against the recorded builds and refusals.
 
 use std::{
     fs,
@@ -28,7 +28,7 @@ pub struct Fared {
     pub random: Option<usize>,
 }
 
-/// A whole build with what comes of it by document 01.
+/// A whole build with what comes of it by the papers.
 struct Known {
     chunks: Chunks,
     sound: BuildResult,

@@ -212,7 +212,7 @@ impl Run {
         response
     }
 
-    /// An order of walking other than document 01's, by turns.
+    /// An order of walking other than the papers', by turns.
     fn walk(&self) -> Walk {
         match self.asked % 6 {
             0 | 1 => Walk::Own,

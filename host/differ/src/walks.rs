@@ -8,7 +8,7 @@
 
 use text::{Chunk, ChunkList};
 
-/// How another walk's list compares with document 01's.
+/// How another walk's list compares with the one under the papers' order.
 #[derive(Debug, Clone, Copy, PartialEq, Eq)]
 pub enum Agreement {
     Same,
@@ -18,8 +18,8 @@ pub enum Agreement {
     Differs,
 }
 
-/// Compares the list under another walk with document 01's, of which each chunk's starting item
-/// is known.
+/// Compares the list under another walk with that under the papers' order, of which each chunk's
+/// starting item is known.
 pub fn compare(document: &ChunkList, origin: &[usize], other: &ChunkList) -> Agreement {
     if document == other {
         return Agreement::Same;

@@ -61,7 +61,8 @@ fn a_group_may_divide_cut_and_drop() {
     let answers = [2, 2, 2];
     assert_eq!(found(&whole.build(&answers)), Ok(vec![(vec![2, 1, 0], 21.0)]));
     let aware = Small::new(&[Group { entries_aware: true, ..Group::default() }]);
-    let divided = Ok(vec![(vec![2], 9.0), (vec![1, 0], 12.0)]);
+    // The smallest ids are "a" and "v"; "v" comes first in execution order.
+    let divided = Ok(vec![(vec![1, 0], 12.0), (vec![2], 9.0)]);
     assert_eq!(found(&aware.build(&answers)), divided);
     let joined = Group { entries_aware: true, threshold: 10.0, ..Group::default() };
     let joined = Small::new(&[joined]);

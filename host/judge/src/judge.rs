@@ -10,9 +10,9 @@ use crate::{CrateText, copies, leaves, names, whole};
 /// In which order hash maps and hash sets are walked.
 #[derive(Debug, Clone, Copy, PartialEq, Eq)]
 pub enum Walk {
-    /// So that the text breaks its ties as document 01 does: sets of modules in execution order,
-    /// which numbers subgroups by first appearance, and subgroups from the highest number down,
-    /// since those that are pushed last are taken off first.
+    /// So that the text breaks its ties as the papers do: sets of modules in execution order, which
+    /// numbers subgroups by first appearance, and the finished subgroups by the smallest id that
+    /// each holds, from the last one down, since those that are pushed last are taken off first.
     Document,
     /// As the hash table has them.
     Own,
@@ -27,13 +27,15 @@ pub enum Walk {
 }
 
 impl Walk {
-    /// The orders for a build whose modules have these execution orders.
-    pub(crate) fn orders(self, exec_orders: &[u32]) -> Orders {
+    /// The orders for modules that have these execution orders, and ids at these places in byte
+    /// order.
+    pub(crate) fn orders(self, exec_orders: &[u32], id_places: &[u32]) -> Orders {
         let both = |order: Order| Orders { modules: order.clone(), subgroups: order };
         match self {
-            Self::Document => {
-                Orders { modules: Order::Ranked(exec_orders.into()), subgroups: Order::Descending }
-            }
+            Self::Document => Orders {
+                modules: Order::Ranked(exec_orders.into()),
+                subgroups: Order::HeldDescending(id_places.into()),
+            },
             Self::Own => both(Order::Own),
             Self::Inserted => both(Order::Inserted),
             Self::Ascending => both(Order::Ascending),
@@ -87,7 +89,7 @@ pub struct Judge {
 }
 
 impl Default for Judge {
-    /// The crate's text, unchanged, under document 01's order.
+    /// The crate's text, unchanged, under the papers' order.
     fn default() -> Self {
         Self {
             text: &copies::unchanged::TEXT,

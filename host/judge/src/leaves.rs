@@ -84,8 +84,8 @@ pub fn merge(judge: &Judge, merge: &Merge) -> Result<Vec<MergedSubgroup>, Outsid
     let (module_table, bits) = merge_tables(merge)?;
     let threshold = merge.threshold.unwrap_or(0.0);
     let numbers: Vec<u32> = (0..).take(bits.len()).collect();
-    let left =
-        under(judge.walk.orders(&numbers), || (judge.text.merge)(&module_table, &bits, threshold));
+    let orders = judge.walk.orders(&numbers, &numbers);
+    let left = under(orders, || (judge.text.merge)(&module_table, &bits, threshold));
     merged(bits.len(), left)
 }
 

@@ -1,6 +1,7 @@
 //! Hands out the private functions of the copy of the crate's text that this is a child of.
 
 use oxc_index::Idx;
+use rustc_hash::order::{Holding, Numbered};
 
 use super::*;
 use crate::{CrateText, RemainingSubgroup, World, block_on::block_on, probe::clock};
@@ -110,6 +111,13 @@ fn merge(module_table: &ModuleTable, bits: &[BitSet], threshold: f64) -> Vec<Rem
         bits: subgroup.bits,
     };
     subgroups.into_iter().map(remaining).collect()
+}
+
+/// A map of subgroups can be walked by the modules that they hold when the walk begins.
+impl Holding for EntriesAwareSubgroup {
+    fn numbers(&self) -> impl Iterator<Item = u32> {
+        self.modules.iter().map(|module| module.number())
+    }
 }
 
 fn split(

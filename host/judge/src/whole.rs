@@ -3,8 +3,8 @@
 use oxc_index::Idx;
 use rolldown_common::{Chunk, ChunkIdx, ChunkKind, ChunkReasonType, ModuleIdx};
 use rolldown_utils::{BitSet, IndexBitSet, xxhash::handed_out};
-use rustc_hash::order::under;
-use text::{Build, ChunkList};
+use rustc_hash::order::{Orders, under};
+use text::{Build, ChunkList, Module};
 
 use crate::{
     CrateText, Judge, Outside, World,
@@ -45,9 +45,8 @@ pub fn names(
 ) -> Result<Vec<Vec<u8>>, Outside> {
     let mut world = World::new(build, match_groups(build, judge.callbacks))?;
     world.link_output.entries = entries(entry_names)?;
-    let exec_orders: Vec<u32> = build.modules.iter().map(|module| module.order).collect();
     let run = || run_text(judge.text, &world, build);
-    let (graph, _) = handed_out(hash, || under(judge.walk.orders(&exec_orders), run))?;
+    let (graph, _) = handed_out(hash, || under(orders(judge, build), run))?;
     let new = graph.chunk_table.iter().skip(build.count_on_entry as usize);
     let named = |chunk: &Chunk| Some(chunk.name.as_ref()?.as_bytes().to_vec());
     let names: Option<_> = new.map(named).collect();
@@ -61,9 +60,7 @@ fn run(
     world: &World,
     build: &Build,
 ) -> Result<ChunkList, Outside> {
-    let exec_orders: Vec<u32> = build.modules.iter().map(|module| module.order).collect();
-    let (graph, assigned) =
-        under(judge.walk.orders(&exec_orders), || run_text(text, world, build))?;
+    let (graph, assigned) = under(orders(judge, build), || run_text(text, world, build))?;
     let list = chunk_list(&graph, build)?;
     for (number, chunk) in list.chunk_of.iter().enumerate() {
         let module = ModuleIdx::from_usize(number);
@@ -72,6 +69,23 @@ fn run(
         }
     }
     Ok(list)
+}
+
+/// The orders of walking for a build.
+fn orders(judge: &Judge, build: &Build) -> Orders {
+    let exec_orders: Vec<u32> = build.modules.iter().map(|module| module.order).collect();
+    judge.walk.orders(&exec_orders, &id_places(&build.modules))
+}
+
+/// The place of each module's id in byte order.
+fn id_places(modules: &[Module]) -> Vec<u32> {
+    let mut sorted: Vec<usize> = (0..modules.len()).collect();
+    sorted.sort_by_key(|number| &modules[*number].id);
+    let mut places = vec![0; modules.len()];
+    for (place, number) in (0..).zip(sorted) {
+        places[number] = place;
+    }
+    places
 }
 
 /// Runs one copy by the clock: `split`, then the sort of each chunk's modules.

@@ -1,16 +1,21 @@
-//! The chunk list of a whole build, by document 01's steps 1 to 5.
+//! The chunk list of a whole build, by document 01's steps 1 to 5, with document 02's last tie in
+//! step 3.
+
+mod subgroups;
 
 use std::collections::{BTreeMap, BTreeSet, VecDeque};
 
 use text::{Chunk, ChunkList, Filter, tables::BuildTables};
 
+use subgroups::of_one_set;
+
 use crate::{
     capture::{capture, chain, eligible},
     cut::cut,
     filter, id,
-    merge::{Subgroup, merge_by, union},
+    merge::union,
     row,
-    rules::{Level, ReadingFault, Rules, SOUND, Setting, Use},
+    rules::{Level, ReadingFault, Rules, SOUND, Setting, Tie, Use},
     story::{Fate, Planned, Story, Turn},
     trace::{Event, Trace},
 };
@@ -26,6 +31,8 @@ struct Item {
     /// The bits of its subgroup, if it is entries-aware.
     bits: Option<[u64; 4]>,
     modules: Modules,
+    /// The module that its place among the subgroups of its set goes by; it may have left since.
+    first: Option<usize>,
     /// Its number in the work list at the start, which its pieces keep.
     origin: usize,
     /// Whether it is a piece of a cut.
@@ -127,14 +134,15 @@ impl Build<'_> {
     fn work_list(&mut self, sets: BTreeMap<(usize, u32), Modules>) -> Vec<Item> {
         let mut items = Vec::new();
         for ((group, name), modules) in sets {
-            let item = Item { group, name, bits: None, modules, origin: 0, piece: false };
+            let first = self.ties().first(&modules);
+            let item = Item { group, name, bits: None, modules, first, origin: 0, piece: false };
             if self.is_entries_aware(group) {
                 items.extend(self.subgroups(item));
             } else {
                 items.push(item);
             }
         }
-        // The sets come by group and name, and subgroups by number; this sort keeps that order.
+        // The sets come by group and name, and subgroups in their order, which this sort keeps.
         items.sort_by_key(|item| std::cmp::Reverse(self.priority(item.group)));
         for (origin, item) in items.iter_mut().enumerate() {
             item.origin = origin;
@@ -145,51 +153,11 @@ impl Build<'_> {
         items
     }
 
-    /// Step 2: an entries-aware set divided by equal bits, numbered by first appearance in
-    /// execution order, then merged.
-    fn subgroups(&mut self, set: Item) -> Vec<Item> {
-        let mut divided: Vec<([u64; 4], Modules)> = Vec::new();
-        for module in self.in_execution_order(&set.modules) {
-            let bits = row(&self.tables.bits, module);
-            let compared = |bits: [u64; 4]| self.rules.words(Use::Equality, bits);
-            match divided.iter_mut().find(|(other, _)| compared(*other) == compared(bits)) {
-                Some((_, modules)) => {
-                    modules.insert(module);
-                }
-                None => divided.push((bits, BTreeSet::from([module]))),
-            }
-        }
-        if divided.len() > 1 {
-            self.trace.events.push(Event::Divided);
-        }
-        self.merged(set, divided)
-    }
-
-    /// The merge of the subgroups of one set.
-    fn merged(&mut self, set: Item, divided: Vec<([u64; 4], Modules)>) -> Vec<Item> {
-        let absent = self.rules.default(Setting::Threshold, 0.0, 2.0);
-        let threshold = self.limit(set.group, Setting::Threshold).unwrap_or(absent);
-        let subgroup = |(bits, modules): &([u64; 4], Modules)| Subgroup {
-            size: self.total(modules),
-            bits: *bits,
-        };
-        let merged = merge_by(self.rules, divided.iter().map(subgroup).collect(), threshold);
-        self.trace.events.extend(merged.joins.iter().map(|_| Event::Joined));
-        let mut items = Vec::new();
-        for (number, left) in merged.left.iter().enumerate() {
-            let Some(left) = left else { continue };
-            let members = (0..divided.len()).filter(|k| merged.number(*k) as usize == number);
-            let modules = members.flat_map(|k| divided[k].1.iter().copied()).collect();
-            items.push(Item { bits: Some(left.bits), modules, ..set.clone() });
-        }
-        items
-    }
-
     /// Step 4: takes the items off, one after another.
     fn convert(&mut self, items: Vec<Item>) -> Vec<Chunk> {
         let mut items = VecDeque::from(items);
         let mut chunks = Vec::new();
-        while let Some(item) = items.pop_front() {
+        while let Some(item) = self.next(&mut items) {
             if item.modules.is_empty() {
                 self.trace.events.push(Event::Emptied);
                 self.tell(&item, Fate::Emptied);
@@ -199,8 +167,7 @@ impl Build<'_> {
             } else if let Some((left, right)) = self.pieces(&item) {
                 let [left_size, right_size] = [&left, &right].map(|one| self.total(&one.modules));
                 self.tell(&item, Fate::Cut { left: left_size, right: right_size });
-                items.push_front(left);
-                items.push_front(right);
+                self.put_back(&mut items, left, right);
             } else {
                 for other in &mut items {
                     self.leave(other, &item.modules);
@@ -211,6 +178,32 @@ impl Build<'_> {
             }
         }
         chunks
+    }
+
+    /// The item whose turn it is.
+    fn next(&mut self, items: &mut VecDeque<Item>) -> Option<Item> {
+        let left_at_turn = self.rules.tie() == Some(Tie::LeftAtTurn);
+        if left_at_turn && items.front().is_some_and(|item| !item.piece) {
+            self.by_what_is_left(items);
+        }
+        let item = items.pop_front()?;
+        let left = item.first.is_some_and(|module| !item.modules.contains(&module));
+        if left && item.bits.is_some() && !item.piece && !item.modules.is_empty() {
+            self.trace.events.push(Event::FirstLeft);
+        }
+        Some(item)
+    }
+
+    /// The pieces of a cut stand where their item stood, the right one first.
+    fn put_back(&mut self, items: &mut VecDeque<Item>, left: Item, right: Item) {
+        items.push_front(left);
+        items.push_front(right);
+        if self.rules.has(ReadingFault::PiecesById) {
+            self.by_what_is_left(items);
+        }
+        if self.rules.has(ReadingFault::PiecesLast) {
+            of_one_set(items).rotate_left(2);
+        }
     }
 
     /// Notes what came of an item, where the story is kept.
@@ -344,7 +337,7 @@ impl Build<'_> {
 /// An item as it stands in the story.
 fn planned(item: &Item) -> Planned {
     let modules = item.modules.iter().copied().collect();
-    Planned { group: item.group, name: item.name, modules }
+    Planned { group: item.group, name: item.name, modules, first: item.first }
 }
 
 /// The filter, with the limits in force.

@@ -2,7 +2,7 @@
 
 use text::{Count, Table};
 
-use crate::rules::{Area, Lengths, Level, ReadingFault as F, Setting, Use};
+use crate::rules::{Area, Lengths, Level, ReadingFault as F, Setting, Tie, Use};
 
 /// The limits among the options, and the options that are global ones too.
 const LIMITS: [Setting; 4] =
@@ -26,6 +26,8 @@ pub fn all() -> Vec<F> {
     for purpose in [Use::Equality, Use::Joined, Use::Distance, Use::Union] {
         all.extend((1..4).map(|word| F::WordIgnored(purpose, word)));
     }
+    all.extend(Tie::ALL.map(F::SubgroupsBy));
+    all.extend([F::PiecesById, F::PiecesLast]);
     all.extend([F::CutBeforeDropped, F::AtMinSizeDropped, F::AtMaxSizeCut]);
     let written = Area::ALL.into_iter().filter(|area| *area != Area::Scratch);
     all.extend(written.map(F::PastEnd));

@@ -1,5 +1,5 @@
-//! An independent plain reading of document 01 and of document 02's note 1: the refusals by their
-//! tables, and the results.
+//! An independent plain reading of document 01 and of document 02's notes 1 and 2: the refusals by
+//! their tables, and the results.
 //!
 //! It is written from the papers and not from the crate, for small inputs and without any care
 //! for speed, so that it shows where the papers and the crate disagree. Nothing of it is proved.
@@ -16,6 +16,7 @@ pub mod refusals;
 pub mod rules;
 pub mod similarity;
 pub mod story;
+pub mod ties;
 pub mod trace;
 pub mod utf8;
 

@@ -102,6 +102,11 @@ pub enum ReadingFault {
     EmptyMaskPassesNone,
     /// An entry word is passed over where entry bits are compared or united.
     WordIgnored(Use, usize),
+    /// The subgroups of one (group, name) follow one another by something else.
+    SubgroupsBy(Tie),
+    /// The pieces of a cut stand among the other subgroups by their ids, or behind all of them.
+    PiecesById,
+    PiecesLast,
     /// An item below min_size that is above max_size isn't dropped.
     CutBeforeDropped,
     /// An item at min_size is dropped; one at max_size is cut.
@@ -158,6 +163,39 @@ pub enum Use {
     Union,
 }
 
+/// What subgroups follow one another by, in place of the smallest id held when they were finished.
+#[derive(Debug, Clone, Copy, PartialEq, Eq)]
+pub enum Tie {
+    /// The lower number in the merge.
+    Number,
+    /// The first module in execution order, or by load number.
+    Execution,
+    LoadNumber,
+    /// The largest id.
+    LargestId,
+    /// The smallest id that it held before others joined it.
+    BeforeMerging,
+    /// The smallest id that is left when its turn comes.
+    LeftAtTurn,
+    /// The smallest id, of which a shorter one is the smaller.
+    ShorterId,
+    /// The smallest id, from the last one down.
+    Backwards,
+}
+
+impl Tie {
+    pub const ALL: [Self; 8] = [
+        Self::Number,
+        Self::Execution,
+        Self::LoadNumber,
+        Self::LargestId,
+        Self::BeforeMerging,
+        Self::LeftAtTurn,
+        Self::ShorterId,
+        Self::Backwards,
+    ];
+}
+
 /// A lent area. The five of the chunk records are `First` to `Bits`.
 #[derive(Debug, Clone, Copy, PartialEq, Eq)]
 pub enum Area {
@@ -190,11 +228,11 @@ pub struct Rules {
     fault: Option<ReadingFault>,
 }
 
-/// The rules of document 01.
+/// The rules of the papers.
 pub const SOUND: Rules = Rules { fault: None };
 
 impl Rules {
-    /// Document 01's rules but for one fault.
+    /// The papers' rules but for one fault.
     pub fn with(fault: ReadingFault) -> Self {
         Self { fault: Some(fault) }
     }
@@ -305,6 +343,11 @@ impl Rules {
             bits[word] = 0;
         }
         bits
+    }
+
+    /// What subgroups follow one another by, if it isn't the smallest id.
+    pub fn tie(self) -> Option<Tie> {
+        if let Some(F::SubgroupsBy(tie)) = self.fault { Some(tie) } else { None }
     }
 
     /// The area that a refused call writes.

@@ -18,6 +18,8 @@ pub struct Planned {
     pub name: u32,
     /// Its modules by number.
     pub modules: Vec<usize>,
+    /// The module whose id its place among the subgroups of its set goes by.
+    pub first: Option<usize>,
 }
 
 /// An item, or a piece of one, when its turn came.

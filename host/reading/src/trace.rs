@@ -11,6 +11,12 @@ pub enum Event {
     Divided,
     /// A subgroup joined another.
     Joined,
+    /// Subgroups of one set are taken in another order than that of their numbers.
+    OutOfNumbers,
+    /// The smallest id of a subgroup came with one that joined it.
+    JoinedFirst,
+    /// The smallest id of an entries-aware item had left it when its turn came.
+    FirstLeft,
     /// An item was empty when its turn came.
     Emptied,
     /// An item was below its min_size.

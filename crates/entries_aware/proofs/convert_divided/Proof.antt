@@ -11,7 +11,7 @@ use Rattle.emitting.specs.Emitted.{Work}
 use Rattle.emitting.proofs.Chunk.{SameLengths}
 use Rattle.items.specs.Turn.{Tables}
 use Rattle.sets.specs.Built.{startAt, startsOf}
-use Rattle.entries_aware.proofs.Runs.{Walked, numbers-ascend, walk-none, walk-number, walk-place, walk-more, walk-all}
+use Rattle.entries_aware.proofs.Runs.{Walked, runs-together, walk-none, walk-number, walk-place, walk-more, walk-all}
 use Rattle.entries_aware.proofs.Runs.{run-row, run-length, run-room, run-positions, run-entries, run-ready}
 use Rattle.entries_aware.proofs.convert_divided.Statement.{statement}
 use Rattle.entries_aware.proofs.convert_divided.Tie as tie
@@ -156,7 +156,7 @@ loop-holds c =
 run-end-requires : tie.Need-run-end-requires Inv-loop μ-loop
 run-end-requires c κs =
     let s = start (c .before) in let a = s .args in
-    (c .loop-test .taken, numbers-ascend (a .settings) (a .group) (a .name) (s .pre))
+    (c .loop-test .taken, runs-together (a .settings) (a .group) (a .name) (s .pre))
 
 sub-count : tie.Need-sub-count Inv-loop μ-loop
 sub-count c = omega (arith, c .run-end .ensures .some)

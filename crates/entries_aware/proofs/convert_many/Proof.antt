@@ -6,7 +6,7 @@ use native.Mathlib.Omega.{arith}
 use lib.ListN.{length, take, length-append}
 use lib.Seq.{length-take-le, take-at}
 use Rattle.subgroups.specs.Merged.{Processed}
-use Rattle.entries_aware.proofs.SetMembers.{set-members, part-room}
+use Rattle.entries_aware.proofs.SetMembers.{set-members, set-ranks, part-room}
 use borrow.Author.Needs.{needs}
 use Rattle.entries_aware.proofs.convert_many.Statement.{statement}
 use Rattle.entries_aware.proofs.convert_many.Tie as tie
@@ -24,10 +24,10 @@ abbrev start : tie.After-process-entries-aware-group → tie.Start
 start c = asked (c .before)
 
 abbrev order : tie.After-process-entries-aware-group → List ℕ
-order c = c .process-entries-aware-group .last .1 .1 .1 .1 .1 .0
+order c = c .process-entries-aware-group .last .1 .1 .1 .1 .1 .1 .0
 
 order-long : (c : tie.After-process-entries-aware-group) → length (order c) ≡ length (start c .args .set .now)
-order-long c = c .process-entries-aware-group .kept .1 .1 .1 .1 .1 .0 ∙ length-take-le _ _ (few (start c))
+order-long c = c .process-entries-aware-group .kept .1 .1 .1 .1 .1 .1 .0 ∙ length-take-le _ _ (few (start c))
 
 -- the tail of the array that is not lent
 order-is : (c : tie.After-process-entries-aware-group) (rest : List ℕ) → take (length (start c .args .set .now)) (order c ++ rest) ≡ order c
@@ -47,7 +47,7 @@ process-entries-aware-group-requires : tie.Need-process-entries-aware-group-requ
 process-entries-aware-group-requires c κs =
     let s = asked c in
     let n = few s in
-    (set-members (s .pre .0) (omega arith), record { row-each = omega arith; order-fits = length-take-le _ _ n })
+    (set-members (s .pre .0) (omega arith), record { row-each = omega arith; order-fits = length-take-le _ _ n }, set-ranks (s .pre .0))
 
 mul-end : tie.Need-mul-end
 mul-end c = search needs
@@ -83,13 +83,13 @@ convert-divided-requires c κs =
     let s = start p in
     let a = s .args in
     let q = p .process-entries-aware-group in
-    let rows : List ℕ = q .last .1 .1 .1 .1 .0 in
-    let long : length rows ≡ 16384 = q .kept .1 .1 .1 .1 .0 in
+    let rows : List ℕ = q .last .1 .1 .1 .1 .1 .0 in
+    let long : length rows ≡ 16384 = q .kept .1 .1 .1 .1 .1 .0 in
     let n = few s in
     record {
       turning = s .pre .0;
       processed =
-          subst (λ (l : List ℕ). Processed (a .bits .now) (a .sizes .now) (a .set .now) (a .settings .threshold) rows l)
+          subst (λ (l : List ℕ). Processed (a .bits .now) (a .sizes .now) (a .set .now) (a .rank .now) (a .settings .threshold) rows l)
           (sym (order-is p _)) (q .ensures);
       few = omega arith;
       positions = ap length (order-is p _) ∙ order-long p;

@@ -10,6 +10,7 @@ use lib.Seq.{length-take-le, length-front}
 use Rattle.forget.specs.Unfollowed.{unfollowed}
 use Rattle.walk.proofs.Trail.{unfollowed-bytes}
 use Rattle.closed.specs.Closed.{Closed}
+use Rattle.matching.proofs.KeysTogether.{keys-together}
 use Rattle.closed.proofs.ClosedSets.{live-bytes, closed-as}
 use Rattle.names.proofs.SetOfRun.{names-ascend, run-is, set-ready}
 use Rattle.names.proofs.NameSteps.{NamesDone, names-start, number-now, place-now, count-in, number-next, names-next, names-turned}
@@ -111,7 +112,7 @@ loop-holds c =
     )
 
 run-end-requires : tie.Need-run-end-requires Inv-loop μ-loop
-run-end-requires c κs = let p = start (c .before) .pre .0 in (c .loop-test .taken, names-ascend (p .turning .fits .passed) (p .fits))
+run-end-requires c κs = let p = start (c .before) .pre .0 in (c .loop-test .taken, keys-together (λ k. k) _ (names-ascend (p .turning .fits .passed) (p .fits)) (λ x y m n e. e))
 
 mul-build-left : tie.Need-mul-build-left Inv-loop μ-loop
 mul-build-left c = let e = c .before .run-end .ensures in omega (arith, e .some, e .within, start (head (c .before)) .good .1 .1 .0)

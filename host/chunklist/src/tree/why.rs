@@ -1,4 +1,4 @@
-//! Why a chunk is what it is, by the host's own reading of document 01. Nothing of it is proved.
+//! Why a chunk is what it is, by the host's own reading of the papers. Nothing of it is proved.
 
 use std::collections::{BTreeMap, BTreeSet};
 
@@ -122,10 +122,22 @@ impl<'a> Why<'a> {
         };
         let oversized =
             oversized.map(|max_size| format!("It is above max_size {max_size}; {reason}."));
-        let aware = group.entries_aware == Some(true);
-        let aware =
-            aware.then_some("Its entries are those of its subgroup before anything left it.");
-        oversized.into_iter().chain(aware.map(String::from)).collect()
+        let mut lines: Vec<String> = oversized.into_iter().collect();
+        if group.entries_aware == Some(true) {
+            lines.push("Its entries are those of its subgroup before anything left it.".into());
+            lines.extend(self.place(turn));
+        }
+        lines
+    }
+
+    /// What the place of an entries-aware item goes by.
+    fn place(&self, turn: &Turn) -> Option<String> {
+        let first = self.reading.story.items[turn.origin].first?;
+        let id = String::from_utf8_lossy(&self.build.numbered.build.modules[first].id);
+        Some(format!(
+            "Its place among the subgroups of its name is by their smallest ids at the start; its \
+             own is {id}."
+        ))
     }
 
     /// The items that came to nothing from one turn to another.

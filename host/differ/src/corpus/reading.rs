@@ -1,4 +1,5 @@
-//! Cases that are recorded because they notice a fault of the reading of document 01.
+//! Cases that are recorded because they tell the order of subgroups, or because they notice a fault of
+//! the reading of the papers.
 
 use std::collections::BTreeSet;
 
@@ -23,6 +24,14 @@ const LONGEST: usize = 2_200;
 
 /// The faults of the reading with how many recorded cases notice each, up to what is wanted.
 struct Noticed(Vec<(ReadingFault, u64)>);
+
+/// Adds all builds that are made to tell the order of subgroups.
+pub fn add_orders(builds: &mut Pair) {
+    for candidate in telling::orders().into_iter().filter_map(answered) {
+        let tag = format!("chunks{}", builds.count() + 1);
+        builds.add(&tag, "tells the order of subgroups", candidate);
+    }
+}
 
 /// Adds cases, the shortest first, until the recorded ones notice each fault as often as wanted.
 pub fn complete(builds: &mut Pair, refusals: &mut Pair) {

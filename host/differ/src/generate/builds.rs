@@ -48,10 +48,12 @@ fn count_on_entry(rng: &mut Rng) -> u64 {
     rng.pick(&[0, 0, 0, 0, 1, 7])
 }
 
-/// Two overlapping groups over two modules, and one entries-aware group over three.
+/// Two overlapping groups over two modules, and one entries-aware group over three, alone and after
+/// a group that takes some of them.
 pub fn exhaustive(visit: Visit<'_>) {
     overlapping(visit);
     entries_aware(visit);
+    taken_before(visit);
 }
 
 /// All answers of two groups for two modules, with and without a dependency.
@@ -120,6 +122,24 @@ fn entries_aware(visit: Visit<'_>) {
                         build.groups[0].options.max_size = max_size;
                         visit(question(build));
                     }
+                }
+            }
+        }
+    }
+}
+
+/// All entry bits and orders of three modules, of which a group of higher priority takes any.
+fn taken_before(visit: Visit<'_>) {
+    for bits in 0..27 {
+        for taken in 0..8_u32 {
+            for orders in [[0, 1, 2], [0, 2, 1], [1, 0, 2], [1, 2, 0], [2, 0, 1], [2, 1, 0]] {
+                for (threshold, max_size) in [(None, None), (Some(2.0), None), (None, Some(1.0))] {
+                    let mut build = three_modules(bits, 22, orders);
+                    build.groups[0].threshold = threshold;
+                    build.groups[0].options.max_size = max_size;
+                    build.groups.push(Group { priority: Some(1), ..Group::default() });
+                    build.answers.push((0..3).map(|at| 2 * (taken >> at & 1)).collect());
+                    visit(question(build));
                 }
             }
         }

@@ -54,8 +54,11 @@ fn bad_length(rng: &mut Rng, chunks: &mut Chunks) {
     let Chunks { build, damage } = chunks;
     let (n, g, d) = (build.modules.len(), build.groups.len(), build.records.len());
     if rng.one_in(4) {
-        let (count, written) = rng.pick(&[(Count::N, n), (Count::G, g), (Count::D, d)]);
-        damage.counts.push((count, other_length(rng, written) as u64));
+        let counts = [(Count::N, n, 4_096), (Count::G, g, 64), (Count::D, d, 65_535)];
+        let (count, written, limit) = rng.pick(&counts);
+        let other = other_length(rng, written);
+        // A count above its limit would be refused with 1.
+        damage.counts.push((count, if other > limit { written - 1 } else { other } as u64));
         return;
     }
     let table = rng.pick(&Table::ALL).0;

@@ -1,5 +1,7 @@
-//! Small whole builds, accepted and refused ones, each made to tell one rule of document 01 from a
+//! Small whole builds, accepted and refused ones, each made to tell one rule of the papers from a
 //! reading that gets it wrong.
+
+mod subgroups;
 
 use text::{Build, Chunks, Count, Damage, Group, Module, Options, Question, Record, Table, tables};
 
@@ -17,7 +19,16 @@ pub fn builds() -> Vec<Question> {
     all.extend(neighbours());
     all.extend(settings());
     all.extend(entry_words());
-    all.into_iter().map(|chunks| Question::Chunks(Box::new(chunks))).collect()
+    all.into_iter().map(question).chain(orders()).collect()
+}
+
+/// Those that tell the order of subgroups.
+pub fn orders() -> Vec<Question> {
+    subgroups::order().into_iter().map(question).collect()
+}
+
+fn question(chunks: Chunks) -> Question {
+    Question::Chunks(Box::new(chunks))
 }
 
 fn sound(build: Build) -> Chunks {

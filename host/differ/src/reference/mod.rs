@@ -1,4 +1,4 @@
-//! The reading of document 01, with what it says of the lent areas.
+//! The reading of the papers, with what it says of the lent areas.
 
 pub mod areas;
 

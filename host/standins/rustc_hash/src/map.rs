@@ -7,7 +7,7 @@ use std::{
 
 use crate::{
     hasher::FxBuildHasher,
-    order::{Numbered, Stop, arrange},
+    order::{Holding, Numbered, Stop, arrange, lowest_held},
 };
 
 /// A hash map. `entry` hands out the standard library's entry, since the crate's text names it.
@@ -76,24 +76,27 @@ impl<K: Eq + Hash + Clone, V> FxHashMap<K, V> {
     }
 }
 
-impl<K: Eq + Hash + Clone + Numbered, V> FxHashMap<K, V> {
+impl<K: Eq + Hash + Clone + Numbered, V: Holding> FxHashMap<K, V> {
     /// The keys, in the chosen order.
     pub fn keys(&self) -> std::vec::IntoIter<&K> {
-        let keys: Vec<&K> = self.table.keys().collect();
-        arrange(K::KIND, keys.iter().map(|key| stop(&self.inserted, *key)).collect(), keys)
+        arrange(K::KIND, self.stops(), self.table.keys().collect())
+    }
+
+    /// What the order of each key can be decided by, as the table has them.
+    fn stops(&self) -> Vec<Stop> {
+        let stop = |(key, value): (&K, &V)| Stop {
+            inserted: self.inserted[key],
+            number: key.number(),
+            lowest: lowest_held(K::KIND, value),
+        };
+        self.table.iter().map(stop).collect()
     }
 }
 
-/// What the order of a key can be decided by.
-fn stop<K: Eq + Hash + Numbered>(inserted: &HashMap<K, u64, FxBuildHasher>, key: &K) -> Stop {
-    Stop { inserted: inserted[key], number: key.number() }
-}
-
-impl<K: Eq + Hash + Clone + Numbered, V> IntoIterator for FxHashMap<K, V> {
+impl<K: Eq + Hash + Clone + Numbered, V: Holding> IntoIterator for FxHashMap<K, V> {
     type Item = (K, V);
     type IntoIter = std::vec::IntoIter<(K, V)>;
     fn into_iter(self) -> Self::IntoIter {
-        let stops = self.table.keys().map(|key| stop(&self.inserted, key)).collect();
-        arrange(K::KIND, stops, self.table.into_iter().collect())
+        arrange(K::KIND, self.stops(), self.table.into_iter().collect())
     }
 }

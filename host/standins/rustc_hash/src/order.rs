@@ -19,6 +19,9 @@ pub enum Order {
     Descending,
     /// The lower entry of this table first, which is looked up by the key's number.
     Ranked(Rc<[u32]>),
+    /// By the lowest entry of this table among the numbers that stand under a key; where that is
+    /// higher goes first.
+    HeldDescending(Rc<[u32]>),
     /// An order drawn from this seed, and drawn anew for each walk.
     Shuffled(u64),
 }
@@ -47,11 +50,34 @@ impl Numbered for u32 {
     }
 }
 
+/// What stands under a key of a map, so that an order can be chosen by it.
+pub trait Holding {
+    /// The numbers that it holds, in any order.
+    fn numbers(&self) -> impl Iterator<Item = u32>;
+}
+
+/// A set is a map with nothing under its keys.
+impl Holding for () {
+    fn numbers(&self) -> impl Iterator<Item = u32> {
+        std::iter::empty()
+    }
+}
+
 /// The chosen orders.
 #[derive(Clone, Debug, Default, PartialEq, Eq)]
 pub struct Orders {
     pub modules: Order,
     pub subgroups: Order,
+}
+
+impl Orders {
+    /// The order of this kind of key.
+    fn of(&self, kind: Kind) -> &Order {
+        match kind {
+            Kind::Module => &self.modules,
+            Kind::Subgroup => &self.subgroups,
+        }
+    }
 }
 
 thread_local! {
@@ -68,11 +94,24 @@ pub fn under<T>(orders: Orders, work: impl FnOnce() -> T) -> T {
     result
 }
 
-/// What an order can be decided by: when a key came in, and its number.
+/// What an order can be decided by: when a key came in, its number, and the lowest entry of what
+/// stands under it.
 #[derive(Clone, Copy)]
 pub(crate) struct Stop {
     pub inserted: u64,
     pub number: u32,
+    pub lowest: u32,
+}
+
+/// The lowest entry of the chosen table among the numbers that stand under a key; zero where the
+/// order doesn't ask for it.
+pub(crate) fn lowest_held(kind: Kind, value: &impl Holding) -> u32 {
+    CHOSEN.with_borrow(|orders| match orders.of(kind) {
+        Order::HeldDescending(table) => {
+            value.numbers().map(|number| table[number as usize]).min().unwrap_or(0)
+        }
+        _ => 0,
+    })
 }
 
 /// Puts the items of one walk, handed in as the table has them, into the chosen order.
@@ -88,10 +127,7 @@ fn positions(kind: Kind, stops: &[Stop]) -> Vec<usize> {
     WALKS.set(walk + 1);
     let mut positions: Vec<usize> = (0..stops.len()).collect();
     CHOSEN.with_borrow(|orders| {
-        let order = match kind {
-            Kind::Module => &orders.modules,
-            Kind::Subgroup => &orders.subgroups,
-        };
+        let order = orders.of(kind);
         if *order != Order::Own {
             positions.sort_by_cached_key(|at| order.place(walk, stops[*at]));
         }
@@ -108,6 +144,7 @@ impl Order {
             Self::Ascending => u64::from(stop.number),
             Self::Descending => u64::from(u32::MAX - stop.number),
             Self::Ranked(ranks) => u64::from(ranks[stop.number as usize]),
+            Self::HeldDescending(_) => u64::from(u32::MAX - stop.lowest),
             Self::Shuffled(seed) => mix(*seed, walk, stop.number),
         }
     }

@@ -14,7 +14,7 @@ array-borrow-prefix-kind-of : tie.Need-array-borrow-prefix-kind-of
 array-borrow-prefix-kind-of c = search needs
 
 slice-aggregate-run-stages : tie.Need-slice-aggregate-run-stages
-slice-aggregate-run-stages c = sym (length-take-le _ _ (few (c .before .before .before .before .before .before)))
+slice-aggregate-run-stages c = sym (length-take-le _ _ (few (c .before .before .before .before .before .before .before)))
 
 slice-aggregate-run-stages-2 : tie.Need-slice-aggregate-run-stages-2
 slice-aggregate-run-stages-2 c = search needs
@@ -24,9 +24,9 @@ slice-aggregate-run-stages-3 c = search needs
 
 run-stages-requires : tie.Need-run-stages-requires
 run-stages-requires c κs =
-    let s = c .before .before .before .before .before .before .before .before .before .before in
+    let s = c .before .before .before .before .before .before .before .before .before .before .before in
     let n = few s in
-    (s .pre .0, record { numbers = length-take-le _ _ n; sizes = n; rows = s .pre .1 .row-each }, n, s .pre .1 .order-fits)
+    (s .pre .0, record { numbers = length-take-le _ _ n; sizes = n; rows = s .pre .1 .row-each }, n, s .pre .1 .order-fits, s .pre .2)
 
 same-length : tie.Need-same-length
 same-length c = search needs

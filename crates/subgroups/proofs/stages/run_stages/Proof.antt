@@ -13,7 +13,7 @@ use Rattle.subgroups.proofs.stages.run_stages.Tie as tie
 -- ---- what is known once the kinds are found
 
 abbrev start : tie.After-find-kinds → tie.Start
-start k = k .before .before .before .before .before .before .before .before .before .before .before .before .before
+start k = k .before .before .before .before .before .before .before .before .before .before .before .before .before .before
 
 abbrev kind-of : tie.After-find-kinds → List ℕ
 kind-of k = k .find-kinds .last .1 .1 .1 .0
@@ -111,7 +111,7 @@ divide-requires c κs =
       can-divide (a .bits .now) (a .sizes .now) (a .set .now) (start k .pre .0) (a .threshold) (k .find-kinds .result)
           (kind-of k) (kind-sizes k) (kind-bits k) (k .find-kinds .ensures) (sizes-room k) (bits-room k) (take (k .find-kinds .result) (finals k))
           (numbers-long k) (left .last .0) (left .last .1 .0) (left .last .1 .1 .0) (left .ensures) (drop (k .find-kinds .result) (finals k))
-          (merged-long m),
+          (merged-long m) (a .rank .now) (start k .pre .4),
       omega (arith, spare-long m, same),
       start k .pre .3 ∙ sym same,
     )
@@ -140,8 +140,8 @@ returns c =
     let left = m .merge-in-place in
     processed (a .bits .now) (a .sizes .now) (a .set .now) (start k .pre .0) (a .threshold) (k .find-kinds .result) (kind-of k) (kind-sizes k) (kind-bits k)
     (k .find-kinds .ensures) (sizes-room k) (bits-room k) (take (k .find-kinds .result) (finals k)) (numbers-long k) (left .last .0) (left .last .1 .0)
-    (left .last .1 .1 .0) (left .ensures) (drop (k .find-kinds .result) (finals k)) (merged-long m) (drop (4 * k .find-kinds .result) (kind-bits k))
-    (division .divide .last .1 .1 .1 .0)
+    (left .last .1 .1 .0) (left .ensures) (drop (k .find-kinds .result) (finals k)) (merged-long m) (a .rank .now) (start k .pre .4)
+    (drop (4 * k .find-kinds .result) (kind-bits k)) (division .divide .last .1 .1 .1 .1 .1 .0)
     (omega (arith, left .kept .1 .1 .0, length-take-le (4 * k .find-kinds .result) (kind-bits k) (bits-room k))) (division .divide .ensures)
 
 pub run-stages-spec : {M : Type 1} → statement M

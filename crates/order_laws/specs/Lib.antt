@@ -1,0 +1,2 @@
+-- What the law of other execution orders is about.
+pub mod Reordering
