@@ -1,6 +1,6 @@
 -- The chains along which the kind of some bits is looked for. What is found follows from the bits alone: a search ensures the same with any
 -- buckets.
-use Prim.Native.Nat.{ℕ, suc, _+_, _*_, _%_, _<_, _≤_}
+use Prim.Native.Nat.{ℕ, suc, _+_, _*_, _%_, _^_, _<_, _≤_}
 use mathlib.Core.Bool.{false}
 use mathlib.Core.List.{List}
 use mathlib.Core.Path.{_≡_}
@@ -13,9 +13,17 @@ use Rattle.grouping.specs.Subgroups.{sameBits}
 abbrev pub bucketCount : ℕ
 bucketCount = 509
 
--- the bucket of a set: the remainders of its words by a prime, mixed
+-- a sum in 64 bits
+abbrev pub wrapped : ℕ → ℕ → ℕ
+wrapped a b = (a + b) % 2 ^ 64
+
+-- five times the words so far and one more
+abbrev pub mixedWith : ℕ → ℕ → ℕ
+mixedWith mixed word = wrapped (wrapped (wrapped (wrapped mixed mixed) (wrapped mixed mixed)) mixed) word
+
+-- the bucket of a set: the remainder of its mixed words by a prime
 unfoldable pub bucketOf : BitSet → ℕ
-bucketOf s = (wordAt s 0 % 509 + wordAt s 1 % 509 * 5 + wordAt s 2 % 509 * 11 + wordAt s 3 % 509 * 17) % 509
+bucketOf s = mixedWith (mixedWith (mixedWith (wordAt s 3) (wordAt s 2)) (wordAt s 1)) (wordAt s 0) % 509
 
 -- the bucket of kind i
 abbrev pub bucketAt : List ℕ → ℕ → ℕ

@@ -3,12 +3,13 @@ use bitset::entries::BitSet;
 use bitset::table::row;
 use joins::subgroup::Subgroup;
 use merge::tables::store;
+use std::num::wrapping_add_u64;
 ghost use mathlib.Core.Path.{_≡_};
 ghost use Prim.Native.Nat.{_+_, _*_, _^_, _≤_, _<_};
 ghost use lib.ListN.{length, getD, set};
 ghost use Rattle.grouping.specs.Subgroups.{sameBits, kindNumber};
 ghost use Rattle.subgroups.specs.Kinds.{rowsOf};
-ghost use Rattle.subgroups.specs.Buckets.{bucketOf, Chained, ChainRoom, Pushed};
+ghost use Rattle.subgroups.specs.Buckets.{mixedWith, bucketOf, Chained, ChainRoom, Pushed};
 ghost use Rattle.subgroups.specs.Finding.{Members, KindRoom, KindFits, Entered, KindsFound};
 
 // Equal entry bits.
@@ -29,13 +30,21 @@ pub fn same_bits(a: BitSet, b: BitSet) -> bool
     x[3] == y[3]
 }
 
-// The bucket of these bits. A search goes by it, and no answer does.
+// Five times the words so far and one more, modulo 2^64.
+fn mix(mixed: u64, word: u64) -> u64
+    ensures { λ r. ⌜ r ≡ mixedWith mixed word ⌝ }
+{
+    let twice = wrapping_add_u64(mixed, mixed);
+    let four_times = wrapping_add_u64(twice, twice);
+    wrapping_add_u64(wrapping_add_u64(four_times, mixed), word)
+}
+
+// The bucket of these bits. A search goes by it, and no answer does. One remainder costs less than one for each word.
 fn bucket_of(bits: BitSet) -> usize
     ensures { λ r. ⌜ r ≡ bucketOf bits ⌝ }
 {
     let w = bits.words;
-    let mixed = w[0] % 509 + w[1] % 509 * 5 + w[2] % 509 * 11 + w[3] % 509 * 17;
-    (mixed % 509) as usize
+    (mix(mix(mix(w[3], w[2]), w[1]), w[0]) % 509) as usize
 }
 
 // The number of the kind that has these bits, and the count of kinds if none has. Only kinds of the bits' bucket are looked at, the last first. Heads

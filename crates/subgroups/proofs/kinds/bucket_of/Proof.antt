@@ -1,55 +1,50 @@
--- `subgroups::kinds::bucket_of` meets its contract: remainders are small, so that nothing wraps.
+-- `subgroups::kinds::bucket_of` meets its contract: a remainder of the words, mixed.
+use Prim.Native.Nat.{ℕ, _%_}
+use mathlib.Core.Path.{ap, _∙_}
+use Rattle.bitset.specs.Entries.{wordAt}
+use Rattle.subgroups.specs.Buckets.{mixedWith, bucketOf}
 use borrow.Author.Needs.{needs}
-use Rattle.subgroups.specs.Buckets.{bucketOf}
 use Rattle.subgroups.proofs.kinds.bucket_of.Statement.{statement}
 use Rattle.subgroups.proofs.kinds.bucket_of.Tie as tie
 
-array-read-mixed : tie.Need-array-read-mixed
-array-read-mixed c = search needs
+array-read-mix : tie.Need-array-read-mix
+array-read-mix c = search needs
 
-array-read-mixed-2 : tie.Need-array-read-mixed-2
-array-read-mixed-2 c = search needs
+array-read-mix-2 : tie.Need-array-read-mix-2
+array-read-mix-2 c = search needs
 
-mul-mixed : tie.Need-mul-mixed
-mul-mixed c = search needs
+mix-requires : tie.Need-mix-requires
+mix-requires c κs = search needs
 
-add-mixed : tie.Need-add-mixed
-add-mixed c = search needs
+array-read-mix-3 : tie.Need-array-read-mix-3
+array-read-mix-3 c = search needs
 
-array-read-mixed-3 : tie.Need-array-read-mixed-3
-array-read-mixed-3 c = search needs
+mix-requires-2 : tie.Need-mix-requires-2
+mix-requires-2 c κs = search needs
 
-mul-mixed-2 : tie.Need-mul-mixed-2
-mul-mixed-2 c = search needs
+array-read-mix-4 : tie.Need-array-read-mix-4
+array-read-mix-4 c = search needs
 
-add-mixed-2 : tie.Need-add-mixed-2
-add-mixed-2 c = search needs
-
-array-read-mixed-4 : tie.Need-array-read-mixed-4
-array-read-mixed-4 c = search needs
-
-mul-mixed-3 : tie.Need-mul-mixed-3
-mul-mixed-3 c = search needs
-
-add-mixed-3 : tie.Need-add-mixed-3
-add-mixed-3 c = search needs
+mix-requires-3 : tie.Need-mix-requires-3
+mix-requires-3 c κs = search needs
 
 returns : tie.Need-returns
 unfolding bucketOf
-returns c = search needs
+returns c =
+    let s = c .before .before .before .before .args .bits in
+    ap (λ (x : ℕ). x % 509)
+    (c .mix3 .ensures
+    ∙ ap (λ (x : ℕ). mixedWith x (wordAt s 0)) (c .before .mix2 .ensures ∙ ap (λ (x : ℕ). mixedWith x (wordAt s 1)) (c .before .before .mix .ensures)))
 
 pub bucket-of-spec : {M : Type 1} → statement M
 bucket-of-spec =
     tie.close
     (tie.spec
-    array-read-mixed
-    array-read-mixed-2
-    mul-mixed
-    add-mixed
-    array-read-mixed-3
-    mul-mixed-2
-    add-mixed-2
-    array-read-mixed-4
-    mul-mixed-3
-    add-mixed-3
+    array-read-mix
+    array-read-mix-2
+    mix-requires
+    array-read-mix-3
+    mix-requires-2
+    array-read-mix-4
+    mix-requires-3
     returns)
