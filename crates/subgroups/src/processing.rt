@@ -5,7 +5,8 @@ ghost use Rattle.subgroups.specs.Finding.{Members};
 ghost use Rattle.subgroups.specs.Merged.{Ranked, ProcessRoom, Processed};
 
 // Divides an entries-aware set by equal entry bits, merges the subgroups, and lists the positions by the subgroup that each ends in, subgroups by the
-// lowest rank in them. The rows are those of the subgroups' united bits. The other tables are gone before the subgroups have their turns, which need room on the stack themselves.
+// lowest rank in them. The rows are those of the subgroups' united bits. The other tables are gone before the subgroups have their turns, which need
+// room on the stack themselves.
 pub fn process_entries_aware_group(
     bits: &[u64],
     sizes: &[u64],
