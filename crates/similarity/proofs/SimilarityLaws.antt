@@ -7,6 +7,7 @@ use native.Mathlib.Decide.{decLe}
 use native.Mathlib.Nat.{max-comm, min-comm}
 use native.Mathlib.Numerals.{add-one}
 use native.Mathlib.Omega.{arith}
+use borrow.Author.Tests.{lt-ltb, le-ltb}
 use lib.Dec.{ltb}
 use lib.ListN.{length, getD, drop, drop-of-length-le}
 use lib.Seq.{drop-cons}
@@ -23,6 +24,15 @@ clamped false n h = h
 pub byteScore-le : (a b : ℕ) → byteScore a b ≤ 10
 unfolding byteScore
 byteScore-le a b = clamped (ltb 10 (gap a b)) (10 - gap a b) (omega arith)
+
+-- the score, without its case: 10 minus the difference, which counts as 10 at most
+pub byteScore-clamped : (a b : ℕ) → 10 - min (gap a b) 10 ≡ byteScore a b
+unfolding byteScore
+byteScore-clamped a b = go (decLe (gap a b) 10)
+  where
+    go : Dec (gap a b ≤ 10) → 10 - min (gap a b) 10 ≡ byteScore a b
+    go (yes h) = rw (le-ltb 10 (gap a b) h) (omega arith)
+    go (no h) = rw (lt-ltb 10 (gap a b) (omega arith)) (omega arith)
 
 pub byteScore-symmetric : (a b : ℕ) → byteScore a b ≡ byteScore b a
 unfolding byteScore

@@ -3,32 +3,26 @@ use ids::offsets::id_too_long;
 ghost use mathlib.Core.Path.{_≡_};
 ghost use Prim.Native.Nat.{_≤_, min};
 ghost use lib.ListN.{length};
-ghost use Rattle.similarity.specs.Similarity.{gap, byteScore, similarity, similarityCall, outcomeOf};
+ghost use Rattle.similarity.specs.Similarity.{byteScore, similarity, similarityCall, outcomeOf};
 
 pub enum Similarity {
     Refused(u32),
     Score(u32),
 }
 
-// What one byte pair adds to the similarity.
+// What one byte pair adds to the similarity. Arithmetic alone: a sign, which takes more than 8 bits, is shifted down to a bit that chooses.
 pub fn byte_score(a: u8, b: u8) -> u32
     ensures { λ r. ⌜ r ≡ byteScore a b ⌝ }
 {
-    let gap = byte_gap(a, b);
-    if 10 < gap {
-        return 0;
-    }
-    10 - gap
-}
-
-// The absolute difference of two bytes.
-fn byte_gap(a: u8, b: u8) -> u32
-    ensures { λ r. ⌜ r ≡ gap a b ⌝ }
-{
-    if a < b {
-        return (b - a) as u32;
-    }
-    (a - b) as u32
+    // 1 where a is above b, else 0.
+    let above = (0 - ((b as i16 - a as i16) >> 15)) as u8;
+    let high = above * a + (1 - above) * b;
+    let low = above * b + (1 - above) * a;
+    let gap = high - low;
+    // 1 where the gap is above 10, else 0: such a gap counts as 10.
+    let far = (0 - ((10 - gap as i16) >> 15)) as u8;
+    let counted = far * 10 + (1 - far) * gap;
+    (10 - counted) as u32
 }
 
 // The shorter of two lengths.

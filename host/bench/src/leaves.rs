@@ -20,8 +20,10 @@ pub const ALL: &[Leaf] = &[
     Leaf { label: "similarity, 60 bytes", with: |run| similarity::with(60, run) },
     Leaf { label: "similarity, 1,024 bytes", with: |run| similarity::with(1_024, run) },
     Leaf { label: "cut, 64 modules, ids of 24 bytes", with: |run| cut::with(64, 24, run) },
+    Leaf { label: "cut, 64 modules, ids of 60 bytes", with: |run| cut::with(64, 60, run) },
     Leaf { label: "cut, 64 modules, ids of 1,024 bytes", with: |run| cut::with(64, 1_024, run) },
     Leaf { label: "cut, 4,096 modules, ids of 24 bytes", with: |run| cut::with(4_096, 24, run) },
+    Leaf { label: "cut, 4,096 modules, ids of 60 bytes", with: |run| cut::with(4_096, 60, run) },
     Leaf {
         label: "cut, 4,096 modules, ids of 1,024 bytes",
         with: |run| cut::with(4_096, 1_024, run),
