@@ -26,6 +26,7 @@ pub struct Lent {
     pub name_of: usize,
     pub size_of: usize,
     pub bits_of: usize,
+    pub mark_of: usize,
     pub scratch: usize,
 }
 
@@ -53,6 +54,7 @@ fn show_table(
     group_of: &[u32; 128],
     name_of: &[u32; 128],
     size_of: &[f64; 128],
+    mark_of: &[u8; 128],
 ) {
     match answer {
         ChunksAnswer::Refused(number) => chunktable::refused(number),
@@ -65,6 +67,7 @@ fn show_table(
                 group_of,
                 name_of,
                 size_of,
+                mark_of,
             )
         }
     }
@@ -83,6 +86,7 @@ fn show_text(
     name_of: &[u32; 128],
     size_of: &[f64; 128],
     bits_of: &[u64; 512],
+    mark_of: &[u8; 128],
     scratch: &[u32; 73728],
 )
     requires { ⌜ n ≤ 128 ⌝ }
@@ -92,7 +96,16 @@ fn show_text(
         ChunksAnswer::Refused(number) => {
             out::refused(number);
             looks::modules(tag, 0, chunk_of, next_of);
-            looks::records(tag, 0, first_of, group_of, name_of, size_of, bits_of);
+            looks::records(
+                tag,
+                0,
+                first_of,
+                group_of,
+                name_of,
+                size_of,
+                bits_of,
+                mark_of,
+            );
             looks::scratch(tag, 0, scratch);
         }
         ChunksAnswer::Made(count) => {
@@ -107,6 +120,7 @@ fn show_text(
                 name_of,
                 size_of,
                 bits_of,
+                mark_of,
             );
             looks::cleared_scratch(tag, lent, scratch);
         }
@@ -124,6 +138,7 @@ fn show_list(
     name_of: &[u32; 128],
     size_of: &[f64; 128],
     bits_of: &[u64; 512],
+    mark_of: &[u8; 128],
 )
     requires { ⌜ n ≤ 128 ⌝ }
 {
@@ -141,6 +156,7 @@ fn show_list(
         name_of,
         size_of,
         bits_of,
+        mark_of,
     );
     list::chunk_of_modules(n, chunk_of);
     if !good {
@@ -150,7 +166,16 @@ fn show_list(
         looks::warn(tag, b"a module of no chunk has a next one");
     }
     looks::modules(tag, n, chunk_of, next_of);
-    looks::records(tag, made, first_of, group_of, name_of, size_of, bits_of);
+    looks::records(
+        tag,
+        made,
+        first_of,
+        group_of,
+        name_of,
+        size_of,
+        bits_of,
+        mark_of,
+    );
 }
 
 fn show(
@@ -166,6 +191,7 @@ fn show(
     name_of: &[u32; 128],
     size_of: &[f64; 128],
     bits_of: &[u64; 512],
+    mark_of: &[u8; 128],
     scratch: &[u32; 73728],
 )
     requires { ⌜ n ≤ 128 ⌝ }
@@ -184,6 +210,7 @@ fn show(
                 name_of,
                 size_of,
                 bits_of,
+                mark_of,
                 scratch,
             )
         }
@@ -196,6 +223,7 @@ fn show(
                 group_of,
                 name_of,
                 size_of,
+                mark_of,
             )
         }
     }
@@ -237,6 +265,7 @@ pub fn answer(
     let mut name_of = [areas::NUMBER; 128];
     let mut size_of = [areas::SIZE; 128];
     let mut bits_of = [areas::WORD; 512];
+    let mut mark_of = [areas::BYTE; 128];
     let mut scratch = [areas::NUMBER; 73728];
     let answer = plainsplit::split(
         counts.n,
@@ -274,6 +303,7 @@ pub fn answer(
         areas::lent_numbers(&mut name_of, lent.name_of),
         areas::lent_sizes(&mut size_of, lent.size_of),
         areas::lent_words(&mut bits_of, lent.bits_of),
+        areas::lent_bytes(&mut mark_of, lent.mark_of),
         areas::lent_numbers(&mut scratch, lent.scratch),
     );
     show(
@@ -289,6 +319,7 @@ pub fn answer(
         &name_of,
         &size_of,
         &bits_of,
+        &mark_of,
         &scratch,
     );
 }

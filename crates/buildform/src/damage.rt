@@ -104,8 +104,8 @@ fn read_count(text: &[u8], at: usize, counts: &mut [usize; 6]) -> usize {
 }
 
 // The length of an area of so many entries at most.
-fn read_area(text: &[u8], at: usize, most: u64, entry: usize, areas: &mut [usize; 8]) -> usize
-    requires { ⌜ entry < 8 ⌝ }
+fn read_area(text: &[u8], at: usize, most: u64, entry: usize, areas: &mut [usize; 9]) -> usize
+    requires { ⌜ entry < 9 ⌝ }
 {
     let length = numbers::decimal_within(text, at, most);
     areas[entry] = length.value as usize;
@@ -113,16 +113,16 @@ fn read_area(text: &[u8], at: usize, most: u64, entry: usize, areas: &mut [usize
 }
 
 // areas CHUNK_OF NEXT_OF RECORDS SCRATCH
-fn read_areas(text: &[u8], at: usize, areas: &mut [usize; 8]) -> usize {
+fn read_areas(text: &[u8], at: usize, areas: &mut [usize; 9]) -> usize {
     let after_chunk_of = read_area(text, at, 128, 0, areas);
     let after_next_of = read_area(text, after_chunk_of, 128, 1, areas);
     let records = numbers::decimal_within(text, after_next_of, 128);
     set_records(records.value as usize, areas);
-    read_area(text, records.at, 73728, 7, areas)
+    read_area(text, records.at, 73728, 8, areas)
 }
 
 // All areas of chunk records get the same length; that of bits in words.
-fn set_records(length: usize, areas: &mut [usize; 8])
+fn set_records(length: usize, areas: &mut [usize; 9])
     requires { ⌜ length ≤ 128 ⌝ }
 {
     areas[2] = length;
@@ -130,15 +130,17 @@ fn set_records(length: usize, areas: &mut [usize; 8])
     areas[4] = length;
     areas[5] = length;
     areas[6] = 4 * length;
+    areas[7] = length;
 }
 
-// records FIRST_OF GROUP_OF NAME_OF SIZE_OF BITS_OF, the last in words
-fn read_records(text: &[u8], at: usize, areas: &mut [usize; 8]) -> usize {
+// records FIRST_OF GROUP_OF NAME_OF SIZE_OF BITS_OF MARK_OF, that of bits in words
+fn read_records(text: &[u8], at: usize, areas: &mut [usize; 9]) -> usize {
     let after_first_of = read_area(text, at, 128, 2, areas);
     let after_group_of = read_area(text, after_first_of, 128, 3, areas);
     let after_name_of = read_area(text, after_group_of, 128, 4, areas);
     let after_size_of = read_area(text, after_name_of, 128, 5, areas);
-    read_area(text, after_size_of, 512, 6, areas)
+    let after_bits_of = read_area(text, after_size_of, 512, 6, areas);
+    read_area(text, after_bits_of, 128, 7, areas)
 }
 
 // One line, of which the first word has been read.
@@ -150,7 +152,7 @@ fn read_line(
     shorts: &mut [u32; 3328],
     counts: &mut [usize; 6],
     all: &mut [usize; 20],
-    areas: &mut [usize; 8],
+    areas: &mut [usize; 9],
 ) -> usize
     requires { ⌜ n ≤ 64 ⌝ }
 {
@@ -175,7 +177,7 @@ pub fn read_damage(
     shorts: &mut [u32; 3328],
     counts: &mut [usize; 6],
     all: &mut [usize; 20],
-    areas: &mut [usize; 8],
+    areas: &mut [usize; 9],
 ) -> usize
     requires { ⌜ n ≤ 64 ⌝ }
 {

@@ -2,7 +2,8 @@
 ghost use Prim.Native.Nat.{_≤_};
 
 // The places of the lengths: flags, sizes, orders, shares, tags, bits (in words), offsets, first, dependency, next, the nine tables of groups,
-// answers. An area's place is that of the call: chunk_of, next_of, first_of, group_of, name_of, size_of, bits_of (in words), scratch.
+// answers. An area's place is that of the call: chunk_of, next_of, first_of, group_of, name_of, size_of, bits_of (in words), mark_of,
+// scratch.
 
 // The lengths that the counts imply, where all groups together have so many answers.
 pub fn implied(n: usize, g: usize, d: usize, answers: usize) -> [usize; 20]
@@ -36,7 +37,7 @@ pub fn implied(n: usize, g: usize, d: usize, answers: usize) -> [usize; 20]
 }
 
 // Three entries more than are needed in each area, and scratch as long as there is: it is enough for 1,088 names.
-pub fn spare(n: usize) -> [usize; 8]
+pub fn spare(n: usize) -> [usize; 9]
     requires { ⌜ n ≤ 64 ⌝ }
 {
     let entries = n + 3;
@@ -49,6 +50,7 @@ pub fn spare(n: usize) -> [usize; 8]
         entries,
         entries,
         bits,
+        entries,
         73728,
     ]
 }

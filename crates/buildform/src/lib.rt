@@ -85,7 +85,7 @@ pub fn read(
     at: usize,
     counts: &mut [usize; 6],
     all: &mut [usize; 20],
-    areas: &mut [usize; 8],
+    areas: &mut [usize; 9],
     ids: &mut [u8; 16384],
     bytes: &mut [u8; 256],
     shorts: &mut [u32; 3328],

@@ -17,7 +17,7 @@ pub fn unread(what: &[u8]) -> usize {
 pub fn answer_case(form: Form, text: &[u8], tag: &[u8], at: usize) -> usize {
     let mut counts = [0usize; 6];
     let mut lengths = [0usize; 20];
-    let mut areas = [0usize; 8];
+    let mut areas = [0usize; 9];
     let mut ids = [0u8; 16384];
     let mut bytes = [0u8; 256];
     let mut shorts = [0u32; 3328];

@@ -65,7 +65,7 @@ fn lengths_of(lengths: &[usize; 20]) -> Lengths {
     }
 }
 
-fn lent_of(areas: &[usize; 8]) -> Lent {
+fn lent_of(areas: &[usize; 9]) -> Lent {
     Lent {
         chunk_of: areas[0],
         next_of: areas[1],
@@ -74,7 +74,8 @@ fn lent_of(areas: &[usize; 8]) -> Lent {
         name_of: areas[4],
         size_of: areas[5],
         bits_of: areas[6],
-        scratch: areas[7],
+        mark_of: areas[7],
+        scratch: areas[8],
     }
 }
 
@@ -84,7 +85,7 @@ pub fn answer(
     tag: &[u8],
     counts: &[usize; 6],
     lengths: &[usize; 20],
-    areas: &[usize; 8],
+    areas: &[usize; 9],
     options: Options,
     id_bytes: usize,
     ids: &[u8; 16384],

@@ -27,18 +27,20 @@ module _ (n : ℕ) where
 
   record-room : (a : ChunkRecords) → shortRecordArea n a ≡ false
       → (n ≤ length (a .first-of)) × (n ≤ length (a .group-of)) × (n ≤ length (a .name-of)) × (n ≤ length (a .size-of))
-      × (4 * n ≤ length (a .bits-of))
+      × (4 * n ≤ length (a .bits-of)) × (n ≤ length (a .mark-of))
   unfolding shortRecordArea
   record-room a e =
       let first = neither _ _ e in
       let group = neither _ _ (first .1) in
       let name = neither _ _ (group .1) in
-      let size = neither _ _ (name .1) in (
+      let size = neither _ _ (name .1) in
+      let bits = neither _ _ (size .1) in (
         ltb-false _ _ (first .0),
         ltb-false _ _ (group .0),
         ltb-false _ _ (name .0),
         ltb-false _ _ (size .0),
-        ltb-false _ _ (size .1),
+        ltb-false _ _ (bits .0),
+        ltb-false _ _ (bits .1),
       )
 
 module _ (b : Given) (a : Areas) (none : 0 ≡ firstNumber (stateTests (b .on-entry) (b .shared .n) (scratchNeed b) a)) where
@@ -72,5 +74,6 @@ module _ (b : Given) (a : Areas) (none : 0 ≡ firstNumber (stateTests (b .on-en
         names = omega (arith, records .2);
         sizes = omega (arith, records .3);
         words = omega (arith, records .4);
+        marks = omega (arith, records .5);
         work = scratch-room;
       }

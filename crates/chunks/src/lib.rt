@@ -53,6 +53,7 @@ pub fn split(
     name_of: &mut [u32],
     size_of: &mut [f64],
     bits_of: &mut [u64],
+    mark_of: &mut [u8],
     scratch: &mut [u32],
 ) -> ChunksAnswer
     ensures { λ r. ⌜ ChunksCall scratchNeed (record {
@@ -98,6 +99,7 @@ pub fn split(
         name-of = now («name_of» .entry);
         size-of = now («size_of» .entry);
         bits-of = now («bits_of» .entry);
+        mark-of = now («mark_of» .entry);
       };
       scratch = now (scratch .entry);
     }) (record {
@@ -108,6 +110,7 @@ pub fn split(
         name-of = now («name_of» .exit);
         size-of = now («size_of» .exit);
         bits-of = now («bits_of» .exit);
+        mark-of = now («mark_of» .exit);
       };
       scratch = now (scratch .exit);
     }) ⌝ }
@@ -156,6 +159,7 @@ pub fn split(
                 name_of: name_of.len(),
                 size_of: size_of.len(),
                 bits_of: bits_of.len(),
+                mark_of: mark_of.len(),
             };
             let number = test_state(answers, n, g, k, on_entry, lengths, scratch.len());
             if number != 0 {
@@ -196,6 +200,7 @@ pub fn split(
                 name_of,
                 size_of,
                 bits_of,
+                mark_of,
                 scratch,
             );
             ChunksAnswer::Made(made)

@@ -41,7 +41,7 @@ unfolding badTable
 tables b g count = rw (sym count) (simp or-assoc)
 
 pub areas : (a : Areas) (n : ℕ) (l : AreaLengths) → areaLengths a ≡ l
-    → ((((((ltb (l .«chunk_of») n || ltb (l .«next_of») n) || ltb (l .«first_of») n) || ltb (l .«group_of») n) || ltb (l .«name_of») n) || ltb (l .«size_of») n)
-    || ltb (l .«bits_of») (4 * n)) ≡ badArea n a
+    → (((((((ltb (l .«chunk_of») n || ltb (l .«next_of») n) || ltb (l .«first_of») n) || ltb (l .«group_of») n) || ltb (l .«name_of») n) || ltb (l .«size_of») n)
+    || ltb (l .«bits_of») (4 * n)) || ltb (l .«mark_of») n) ≡ badArea n a
 unfolding badArea shortModuleArea shortRecordArea
 areas a n l e = rw (sym e) (simp or-assoc)

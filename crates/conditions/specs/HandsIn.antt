@@ -82,6 +82,7 @@ areaLengths a =
       «name_of» = length (r .name-of);
       «size_of» = length (r .size-of);
       «bits_of» = length (r .bits-of);
+      «mark_of» = length (r .mark-of);
     }
 
 -- ---- tables

@@ -32,6 +32,7 @@ pub fn bad_area(n: usize, lengths: AreaLengths) -> bool
         | (lengths.name_of < n)
         | (lengths.size_of < n)
         | (lengths.bits_of < 4 * n)
+        | (lengths.mark_of < n)
 }
 
 // Refusal 13: scratch of so many words is shorter than what n modules and that many (group, name) pairs need.

@@ -47,4 +47,5 @@ pub struct AreaLengths {
     pub name_of: usize,
     pub size_of: usize,
     pub bits_of: usize,
+    pub mark_of: usize,
 }

@@ -1,10 +1,12 @@
--- What the answer of the cut says. A cut that is answered is allowed, none is answered just where no place is allowed, below two modules
--- there is none, and the two sizes of a cut add to the size of the whole.
+-- What the answer of the cut says. A cut that is answered is allowed; "fewer than two modules" is answered just for those, and "no allowed cut" just for
+-- two or more of which no place is allowed; the two sizes of a cut add to the size of the whole.
 use Prim.Native.Nat.{ℕ, _-_, _^_, _≤_, _<_}
-use mathlib.Core.Bool.{true, false}
+use mathlib.Core.Bool.{Bool, true, false, cond}
 use mathlib.Core.List.{List, [], _∷_, foldl, map}
 use mathlib.Core.Path.{_≡_, refl, sym, ap, ap₂, _∙_}
 use native.Mathlib.Omega.{arith}
+use borrow.Author.Tests.{ltb-true, ltb-false, lt-ltb}
+use lib.Dec.{ltb}
 use lib.Ieee.{Float, binary64, le, add}
 use lib.ListN.{length, take, drop, take-append-drop}
 use Rattle.lists.specs.Range.{range}
@@ -15,7 +17,7 @@ use Rattle.lists.proofs.Sum.{sum-split}
 use Rattle.whole.specs.Double.{sumF64}
 use Rattle.whole.proofs.Exact.{sum-join}
 use Rattle.cut.specs.Candidate.{candidateAt, allowed}
-use Rattle.cut.specs.Cut.{none, cut, allowedCuts, better, pick, cutOf}
+use Rattle.cut.specs.Cut.{Chosen, fewerThanTwo, noneAllowed, cut, whyNone, allowedCuts, better, pick, cutOf}
 use Rattle.cut.specs.declared.candidate.Candidate.{Candidate}
 use Rattle.cut.proofs.Kept.{each-place, at-place, kept-passes, nothing-kept, all-fail, best-is-one}
 
@@ -27,6 +29,26 @@ pub record Allowed (ids : List (List ℕ)) (sizes : List ℕ) (minimum : Float) 
   pub right : r ≡ sumF64 (drop i sizes)
   pub left-reaches : le minimum l ≡ true
   pub right-reaches : le minimum r ≡ true
+
+-- an answer that is no cut
+abbrev pub NoCut : Chosen → Type 0
+NoCut fewerThanTwo = Unit {0}
+NoCut noneAllowed = Unit {0}
+NoCut (cut i l r) = ⊥
+
+-- ---- why there is none, by the count
+
+of-cut : (t : Bool) {i : ℕ} {l r : Float} → cond t fewerThanTwo noneAllowed ≡ cut i l r → ⊥
+of-cut true e = let z : _≡_ {A = ℕ} 0 1 = cc in omega arith
+of-cut false e = let z : _≡_ {A = ℕ} 0 1 = cc in omega arith
+
+of-many : (n : ℕ) (t : Bool) → ltb n 2 ≡ t → cond t fewerThanTwo noneAllowed ≡ noneAllowed → 2 ≤ n
+of-many n true h e = absurd (let z : _≡_ {A = ℕ} 0 1 = cc in omega arith)
+of-many n false h e = ltb-false n 2 h
+
+of-few : (n : ℕ) (t : Bool) → ltb n 2 ≡ t → cond t fewerThanTwo noneAllowed ≡ fewerThanTwo → n ≤ 1
+of-few n true h e = omega (arith, ltb-true n 2 h)
+of-few n false h e = absurd (let z : _≡_ {A = ℕ} 0 1 = cc in omega arith)
 
 module _ (ids : List (List ℕ)) (sizes : List ℕ) (minimum maximum : Float) where
   -- the cuts that are looked at: the definition's, at a place from 1 to N−1
@@ -42,7 +64,8 @@ module _ (ids : List (List ℕ)) (sizes : List ℕ) (minimum maximum : Float) wh
 
   -- ---- a cut is answered
 
-  of-best : (c : Candidate) (i : ℕ) (l r : Float) → Place c × (allowed minimum c ≡ true) → cut (c .index) (c .left) (c .right) ≡ cut i l r → Allowed ids sizes minimum i l r
+  of-best : (c : Candidate) (i : ℕ) (l r : Float) → Place c × (allowed minimum c ≡ true) → cut (c .index) (c .left) (c .right) ≡ cut i l r
+      → Allowed ids sizes minimum i l r
   unfolding allowed
   of-best c i l r p e =
       let at : c .index ≡ i = cc in
@@ -59,9 +82,10 @@ module _ (ids : List (List ℕ)) (sizes : List ℕ) (minimum maximum : Float) wh
         right-reaches = rw on-right at (reach .1);
       }
 
-  picked : (cs : List Candidate) (i : ℕ) (l r : Float) → Each (λ c. Place c × (allowed minimum c ≡ true)) cs → pick maximum cs ≡ cut i l r → Allowed ids sizes minimum i l r
+  picked : (cs : List Candidate) (i : ℕ) (l r : Float) → Each (λ c. Place c × (allowed minimum c ≡ true)) cs → pick (length ids) maximum cs ≡ cut i l r
+      → Allowed ids sizes minimum i l r
   unfolding pick
-  picked [] i l r all e = absurd (let z : _≡_ {A = ℕ} 0 1 = cc in omega arith)
+  picked [] i l r all e = absurd (of-cut (ltb (length ids) 2) e)
   picked (first ∷ later) i l r (more q s) e =
       of-best (foldl (better maximum) first later) i l r (best-is-one (λ c. Place c × (allowed minimum c ≡ true)) maximum first later q s) e
 
@@ -69,27 +93,43 @@ module _ (ids : List (List ℕ)) (sizes : List ℕ) (minimum maximum : Float) wh
   unfolding cutOf allowedCuts
   there-is-a-cut i l r e = picked (allowedCuts ids sizes minimum) i l r (kept-passes Place (allowed minimum) places) e
 
-  -- ---- none is answered
+  -- ---- none is answered: no place is allowed, and the count says why
 
-  pick-none : (cs : List Candidate) → pick maximum cs ≡ none → cs ≡ []
+  none-kept : (cs : List Candidate) → pick (length ids) maximum cs ≡ noneAllowed → (cs ≡ []) × (2 ≤ length ids)
   unfolding pick
-  pick-none [] e = refl
-  pick-none (first ∷ later) e = absurd (let z : _≡_ {A = ℕ} 0 1 = cc in omega arith)
+  none-kept [] e = (refl, of-many (length ids) (ltb (length ids) 2) refl e)
+  none-kept (first ∷ later) e = absurd (let z : _≡_ {A = ℕ} 0 1 = cc in omega arith)
 
-  pub none-allowed : cutOf ids sizes minimum maximum ≡ none → (i : ℕ) → 1 ≤ i → i < length ids → allowed minimum (candidateAt ids sizes i) ≡ false
+  few-kept : (cs : List Candidate) → pick (length ids) maximum cs ≡ fewerThanTwo → length ids ≤ 1
+  unfolding pick
+  few-kept [] e = of-few (length ids) (ltb (length ids) 2) refl e
+  few-kept (first ∷ later) e = absurd (let z : _≡_ {A = ℕ} 0 1 = cc in omega arith)
+
+  pub none-allowed : cutOf ids sizes minimum maximum ≡ noneAllowed → (i : ℕ) → 1 ≤ i → i < length ids → allowed minimum (candidateAt ids sizes i) ≡ false
   unfolding cutOf allowedCuts
   none-allowed e i l u =
       at-place (λ c. allowed minimum c ≡ false) (candidateAt ids sizes) 1 (length ids - 1)
-      (all-fail (allowed minimum) (map (candidateAt ids sizes) (range 1 (length ids - 1))) (pick-none (allowedCuts ids sizes minimum) e))
+      (all-fail (allowed minimum) (map (candidateAt ids sizes) (range 1 (length ids - 1))) (none-kept (allowedCuts ids sizes minimum) e .0))
       i l (omega arith)
 
-  pub none-if-none-allowed : ((i : ℕ) → 1 ≤ i → i < length ids → allowed minimum (candidateAt ids sizes i) ≡ false) → cutOf ids sizes minimum maximum ≡ none
+  pub two-or-more : cutOf ids sizes minimum maximum ≡ noneAllowed → 2 ≤ length ids
+  unfolding cutOf
+  two-or-more e = none-kept (allowedCuts ids sizes minimum) e .1
+
+  pub fewer-than-two : cutOf ids sizes minimum maximum ≡ fewerThanTwo → length ids ≤ 1
+  unfolding cutOf
+  fewer-than-two e = few-kept (allowedCuts ids sizes minimum) e
+
+  pub none-if-none-allowed : ((i : ℕ) → 1 ≤ i → i < length ids → allowed minimum (candidateAt ids sizes i) ≡ false)
+      → cutOf ids sizes minimum maximum ≡ whyNone (length ids)
   unfolding cutOf allowedCuts pick
   none-if-none-allowed h =
-      ap (pick maximum) (nothing-kept (allowed minimum) (each-place (λ c. allowed minimum c ≡ false) (candidateAt ids sizes) 1 (length ids - 1) (λ i l u. h i l (omega arith))))
+      ap (pick (length ids) maximum)
+      (nothing-kept (allowed minimum) (each-place (λ c. allowed minimum c ≡ false) (candidateAt ids sizes) 1 (length ids - 1) (λ i l u. h i l (omega arith))))
 
-  pub below-two : length ids ≤ 1 → cutOf ids sizes minimum maximum ≡ none
+  pub below-two : length ids ≤ 1 → cutOf ids sizes minimum maximum ≡ fewerThanTwo
   below-two h = none-if-none-allowed (λ i l u. absurd (omega arith))
+      ∙ ap (λ (t : Bool). cond t fewerThanTwo noneAllowed) (lt-ltb (length ids) 2 (omega arith))
 
   -- the two sizes of a cut add to the size of the whole
   pub sizes-add : sum sizes ≤ 2 ^ 53 → (i : ℕ) (l r : Float) → cutOf ids sizes minimum maximum ≡ cut i l r → add binary64 l r ≡ sumF64 sizes

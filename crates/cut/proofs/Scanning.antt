@@ -40,24 +40,24 @@ module _ (b : Bounds) where
   from-found (c ∷ cs) best = found-step (allowed (b .minimum) c) best c cs (from-found cs)
 
   -- before that, the first that is allowed becomes the best
-  start-step : (t : Bool) (c : Candidate) (cs : List Candidate) → chosenFrom (scan Nothing cs) ≡ pick (b .maximum) (kept cs)
-      → chosenFrom (scan (cond t (Found c) Nothing) cs) ≡ pick (b .maximum) (keepHead t c (kept cs))
+  start-step : (n : ℕ) (t : Bool) (c : Candidate) (cs : List Candidate) → chosenFrom n (scan Nothing cs) ≡ pick n (b .maximum) (kept cs)
+      → chosenFrom n (scan (cond t (Found c) Nothing) cs) ≡ pick n (b .maximum) (keepHead t c (kept cs))
   unfolding keepHead pick
-  start-step true c cs rest = ap chosenFrom (from-found cs c)
-  start-step false c cs rest = rest
+  start-step n true c cs rest = ap (chosenFrom n) (from-found cs c)
+  start-step n false c cs rest = rest
 
-  scan-picks : (cs : List Candidate) → chosenFrom (scan Nothing cs) ≡ pick (b .maximum) (kept cs)
+  scan-picks : (n : ℕ) (cs : List Candidate) → chosenFrom n (scan Nothing cs) ≡ pick n (b .maximum) (kept cs)
   unfolding considered keep pick
-  scan-picks [] = refl
-  scan-picks (c ∷ cs) = start-step (allowed (b .minimum) c) c cs (scan-picks cs)
+  scan-picks n [] = refl
+  scan-picks n (c ∷ cs) = start-step n (allowed (b .minimum) c) c cs (scan-picks n cs)
 
 -- the whole scan answers what the definition says
 pub scan-cuts : (b : Bounds) (ids : List (List ℕ)) (sizes : List ℕ) (k : ℕ) → k ≡ length ids - 1
-    → chosenFrom (foldl (considered b) Nothing (map (candidateAt ids sizes) (range 1 k))) ≡ cutOf ids sizes (b .minimum) (b .maximum)
+    → chosenFrom (length ids) (foldl (considered b) Nothing (map (candidateAt ids sizes) (range 1 k))) ≡ cutOf ids sizes (b .minimum) (b .maximum)
 unfolding cutOf allowedCuts
 scan-cuts b ids sizes k e =
-    ap (λ (n : ℕ). chosenFrom (foldl (considered b) Nothing (map (candidateAt ids sizes) (range 1 n)))) e
-    ∙ scan-picks b (map (candidateAt ids sizes) (range 1 (length ids - 1)))
+    ap (λ (n : ℕ). chosenFrom (length ids) (foldl (considered b) Nothing (map (candidateAt ids sizes) (range 1 n)))) e
+    ∙ scan-picks b (length ids) (map (candidateAt ids sizes) (range 1 (length ids - 1)))
 
 -- ---- one place more
 

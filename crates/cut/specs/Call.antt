@@ -10,9 +10,9 @@ use Rattle.refusal.specs.Counts.{moduleLimit, badLength}
 use Rattle.whole.specs.Total.{totalExceeds}
 use Rattle.ids.specs.Parts.{idsOf}
 use Rattle.ids.specs.Offsets.{idLimit, badOffsets}
-use Rattle.cut.specs.Cut.{Chosen, none, cut, cutOf}
+use Rattle.cut.specs.Cut.{Chosen, fewerThanTwo, noneAllowed, cut, cutOf}
 use Rattle.cut.specs.declared.Cut.{Cut}
-use Rattle.cut.specs.declared.Cut.the-variants.{None, At}
+use Rattle.cut.specs.declared.Cut.the-variants.{FewerThanTwo, NoneAllowed, At}
 use Rattle.cut.specs.declared.CutAnswer.{CutAnswer}
 use Rattle.cut.specs.declared.CutAnswer.the-variants.{Refused, Answered}
 
@@ -35,7 +35,8 @@ cutCall n bytes offsets sizes minimum maximum =
 
 -- the values of each case of a cut
 abbrev pub chosenOf : Cut → Chosen
-chosenOf None = none
+chosenOf FewerThanTwo = fewerThanTwo
+chosenOf NoneAllowed = noneAllowed
 chosenOf (At c) = cut (c .index) (c .«left_size») (c .«right_size»)
 
 -- the number and the values of each case of the answer

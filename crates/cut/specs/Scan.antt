@@ -4,7 +4,7 @@ use mathlib.Core.Bool.{Bool, false, cond}
 use lib.Dec.{ltb}
 use lib.Ieee.{Float}
 use Rattle.cut.specs.Candidate.{allowed}
-use Rattle.cut.specs.Cut.{Chosen, none, cut, better}
+use Rattle.cut.specs.Cut.{Chosen, cut, whyNone, better}
 use Rattle.cut.specs.declared.candidate.Candidate.{Candidate}
 use Rattle.cut.specs.declared.scan.Best.{Best}
 use Rattle.cut.specs.declared.scan.Best.the-variants.{Nothing, Found}
@@ -25,7 +25,7 @@ unfoldable pub considered : Bounds → Best → Candidate → Best
 unfolding allowed
 considered b best c = cond (allowed (b .minimum) c) (replaced (b .maximum) best c) best
 
--- what the scan answers
-abbrev pub chosenFrom : Best → Chosen
-chosenFrom Nothing = none
-chosenFrom (Found c) = cut (c .index) (c .left) (c .right)
+-- what the scan over the places of so many modules answers
+abbrev pub chosenFrom : ℕ → Best → Chosen
+chosenFrom count Nothing = whyNone count
+chosenFrom count (Found c) = cut (c .index) (c .left) (c .right)

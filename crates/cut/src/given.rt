@@ -81,5 +81,5 @@ pub fn pick_given(bytes: &[u8], offsets: &[u32], sizes: &[u64], minimum: f64, ma
         best = look_at(bytes, offsets, i, left, total - left, bounds, best);
         i = i + 1;
     }
-    best.into_cut()
+    best.into_cut(sizes.len())
 }

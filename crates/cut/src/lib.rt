@@ -16,8 +16,10 @@ pub struct CutPoint {
     pub right_size: f64,
 }
 
+// There is no cut of fewer than two modules, and of more there may be none that is allowed.
 pub enum Cut {
-    None,
+    FewerThanTwo,
+    NoneAllowed,
     At(CutPoint),
 }
 

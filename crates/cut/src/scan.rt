@@ -62,11 +62,17 @@ impl Best {
         self.or_better(candidate, bounds.maximum)
     }
 
-    pub fn into_cut(self) -> Cut
-        ensures { λ r. ⌜ chosenOf r ≡ chosenFrom self ⌝ }
+    // What was found among so many modules. Where it is nothing, their number says why.
+    pub fn into_cut(self, count: usize) -> Cut
+        ensures { λ r. ⌜ chosenOf r ≡ chosenFrom count self ⌝ }
     {
         match self {
-            Best::Nothing => Cut::None,
+            Best::Nothing => {
+                if count < 2 {
+                    return Cut::FewerThanTwo;
+                }
+                Cut::NoneAllowed
+            }
             Best::Found(best) => Cut::At(CutPoint {
                 index: best.index,
                 left_size: best.left,

@@ -36,5 +36,5 @@ pub fn pick_by_similarity(
         best = best.consider(candidate, bounds);
         i = i + 1;
     }
-    best.into_cut()
+    best.into_cut(similar.len())
 }

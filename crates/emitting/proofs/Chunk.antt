@@ -17,6 +17,7 @@ pub record Written (bits : List ℕ) (number at : ℕ) (e : Emission) (before af
   pub name : after .name-of ≡ set (before .name-of) at (e .head .name)
   pub size : after .size-of ≡ set (before .size-of) at (e .size)
   pub words : after .bits-of ≡ withRow (before .bits-of) at (bitsOfChunk bits (e .head) (e .modules))
+  pub mark : after .mark-of ≡ set (before .mark-of) at (e .mark)
 
 pub written-chunk : {bits : List ℕ} {number at : ℕ} {e : Emission} {before after : Work} → Written bits number at e before after
     → after ≡ withChunk bits number at e before
@@ -27,6 +28,7 @@ written-chunk {number = number} {e = e} {before = before} p = λ i. record {
   name-of = p .name i;
   size-of = p .size i;
   bits-of = p .words i;
+  mark-of = p .mark i;
 }
 
 -- ---- lengths
@@ -37,9 +39,10 @@ pub record SameLengths (v w : Work) : Type 0 where
   pub name-of : length (v .name-of) ≡ length (w .name-of)
   pub size-of : length (v .size-of) ≡ length (w .size-of)
   pub bits-of : length (v .bits-of) ≡ length (w .bits-of)
+  pub mark-of : length (v .mark-of) ≡ length (w .mark-of)
 
 pub same-lengths : (w : Work) → SameLengths w w
-same-lengths w = record { chunk-of = refl; group-of = refl; name-of = refl; size-of = refl; bits-of = refl }
+same-lengths w = record { chunk-of = refl; group-of = refl; name-of = refl; size-of = refl; bits-of = refl; mark-of = refl }
 
 pub lengths-kept : {u v w : Work} → SameLengths u v → SameLengths v w → SameLengths u w
 lengths-kept p q = record {
@@ -48,6 +51,7 @@ lengths-kept p q = record {
   name-of = p .name-of ∙ q .name-of;
   size-of = p .size-of ∙ q .size-of;
   bits-of = p .bits-of ∙ q .bits-of;
+  mark-of = p .mark-of ∙ q .mark-of;
 }
 
 pub number-length : (modules : List ℕ) (number : ℕ) (l : List ℕ) → length (withNumber modules number l) ≡ length l
@@ -64,6 +68,7 @@ room-kept bits number at e w h = record {
   name-of = length-set (w .name-of) at (e .head .name);
   size-of = length-set (w .size-of) at (e .size);
   bits-of = length-with-row (w .bits-of) at (bitsOfChunk bits (e .head) (e .modules)) h;
+  mark-of = length-set (w .mark-of) at (e .mark);
 }
 
 -- there is room for a part of a list in areas of the same lengths
@@ -74,6 +79,7 @@ room-part {members = members} start end within s r = record {
   names = rw (s .name-of) (r .names);
   sizes = rw (s .size-of) (r .sizes);
   words = rw (s .bits-of) (r .words);
+  marks = rw (s .mark-of) (r .marks);
   numbered = λ i h. rw (at-part i h, s .chunk-of) (r .numbered (start + i) (inside i h));
   has-bits = λ i h. rw (at-part i h) (r .has-bits (start + i) (inside i h));
 }

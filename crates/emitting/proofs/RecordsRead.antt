@@ -42,6 +42,11 @@ module _ (bits : List ℕ) (number at : ℕ) (es : List Emission) (w : Work) whe
   unfolding withChunk
   sizes-read h = area-placed (λ v. v .size-of) (λ e. e .size) (λ b n a e v. refl) bits number at es w h
 
+  pub marks-read : at + length es ≤ length (w .mark-of)
+      → withChunks bits number at es w .mark-of ≡ placed at (map (λ e. e .mark) es) (w .mark-of)
+  unfolding withChunk
+  marks-read h = area-placed (λ v. v .mark-of) (λ e. e .mark) (λ b n a e v. refl) bits number at es w h
+
 -- ---- four words a record
 
 words-count : (bits : List ℕ) (es : List Emission) → length (chunkWords bits es) ≡ 4 * length es

@@ -10,19 +10,21 @@ use Rattle.bitset.specs.Rows.{withRow}
 use Rattle.bitset.specs.declared.entries.BitSet.{BitSet}
 use Rattle.emitting.specs.declared.emit.Head.{Head}
 
--- the areas: per module its chunk number plus 1; per chunk its group, name, size and entry bits
+-- the areas: per module its chunk number plus 1; per chunk its group, name, size, entry bits and mark
 pub record Work : Type 0 where
   pub chunk-of : List ℕ
   pub group-of : List ℕ
   pub name-of : List ℕ
   pub size-of : List Float
   pub bits-of : List ℕ
+  pub mark-of : List ℕ
 
--- a chunk that is emitted: what it shares with the other chunks of its item, its modules and its size
+-- a chunk that is emitted: what it shares with the other chunks of its item, its modules, its size and its mark
 pub record Emission : Type 0 where
   pub head : Head
   pub modules : List ℕ
   pub size : Float
+  pub mark : ℕ
 
 -- the union of the entry bits of modules
 unfoldable pub unionOfModules : List ℕ → List ℕ → BitSet
@@ -51,6 +53,7 @@ withChunk bits number at e w =
       name-of = set (w .name-of) at (e .head .name);
       size-of = set (w .size-of) at (e .size);
       bits-of = withRow (w .bits-of) at (bitsOfChunk bits (e .head) (e .modules));
+      mark-of = set (w .mark-of) at (e .mark);
     }
 
 -- and after several
@@ -64,11 +67,12 @@ unfoldable pub partsFrom : List ℕ → ℕ → List ℕ → List (List ℕ)
 partsFrom l end [] = []
 partsFrom l end (start ∷ starts) = take (end - start) (drop start l) ∷ partsFrom l start starts
 
--- a chunk for each part, with its size
-unfoldable pub emissions : Head → List (List ℕ) → List Float → List Emission
-emissions head [] sizes = []
-emissions head (p ∷ ps) [] = []
-emissions head (p ∷ ps) (s ∷ sizes) = record { head = head; modules = p; size = s } ∷ emissions head ps sizes
+-- a chunk for each part, with its size and its mark
+unfoldable pub emissions : Head → List (List ℕ) → List Float → List ℕ → List Emission
+emissions head [] sizes marks = []
+emissions head (p ∷ ps) [] marks = []
+emissions head (p ∷ ps) (s ∷ sizes) [] = []
+emissions head (p ∷ ps) (s ∷ sizes) (k ∷ marks) = record { head = head; modules = p; size = s; mark = k } ∷ emissions head ps sizes marks
 
 -- each of the modules has an entry in a table of four words a row
 abbrev pub HasBits : List ℕ → List ℕ → Type 0
@@ -84,12 +88,14 @@ pub record Room (bits : List ℕ) (members : List ℕ) (w : Work) (at : ℕ) : T
   pub names : at < length (w .name-of)
   pub sizes : at < length (w .size-of)
   pub words : 4 * at + 4 ≤ length (w .bits-of)
+  pub marks : at < length (w .mark-of)
   pub numbered : HasEntry (w .chunk-of) members
   pub has-bits : HasBits bits members
 
 -- the starts fall from the end of the list on, and there is room for a record for each
-pub record Parts (bits members starts : List ℕ) (sizes : List Float) (w : Work) (at : ℕ) : Type 0 where
+pub record Parts (bits members starts : List ℕ) (sizes : List Float) (marks : List ℕ) (w : Work) (at : ℕ) : Type 0 where
   pub same-count : length starts ≡ length sizes
+  pub same-marks : length starts ≡ length marks
   pub first-in : (i : ℕ) → i < length starts → getD starts i 0 ≤ length members
   pub fall : (i : ℕ) → i + 1 < length starts → getD starts (i + 1) 0 ≤ getD starts i 0
   pub room : (j : ℕ) → j < length starts → Room bits members w (at + j)

@@ -34,6 +34,7 @@ pub fn emit_chunk(
     head: Head,
     members: &[u32],
     size: f64,
+    mark: u8,
     bits: &[u64],
     number: ChunkIdx,
     at: usize,
@@ -42,6 +43,7 @@ pub fn emit_chunk(
     name_of: &mut [u32],
     size_of: &mut [f64],
     bits_of: &mut [u64],
+    mark_of: &mut [u8],
 )
     requires { ⌜ Room (now bits) (now members) (record {
       chunk-of = now «chunk_of»;
@@ -49,6 +51,7 @@ pub fn emit_chunk(
       name-of = now «name_of»;
       size-of = now «size_of»;
       bits-of = now «bits_of»;
+      mark-of = now «mark_of»;
     }) at ⌝ }
     requires { ⌜ number .0 + 1 < 2 ^ 32 ⌝ }
     ensures { λ _. ⌜ record {
@@ -57,17 +60,29 @@ pub fn emit_chunk(
       name-of = now («name_of» .exit);
       size-of = now («size_of» .exit);
       bits-of = now («bits_of» .exit);
-    } ≡ withChunk (now (bits .entry)) (number .0) at (record { head = head; modules = now (members .entry); size = size }) (record {
+      mark-of = now («mark_of» .exit);
+    } ≡ withChunk (now (bits .entry)) (number .0) at (record { head = head; modules = now (members .entry); size = size; mark = mark }) (record {
       chunk-of = now («chunk_of» .entry);
       group-of = now («group_of» .entry);
       name-of = now («name_of» .entry);
       size-of = now («size_of» .entry);
       bits-of = now («bits_of» .entry);
+      mark-of = now («mark_of» .entry);
     }) ⌝ }
 {
     let own = chunk_bits(head, bits, members);
     add_modules_to_chunk(members, chunk_of, number.0 + 1);
-    store_fields(group_of, name_of, size_of, at, head.group, head.name, size);
+    store_fields(
+        group_of,
+        name_of,
+        size_of,
+        mark_of,
+        at,
+        head.group,
+        head.name,
+        size,
+        mark,
+    );
     store_row(bits_of, at, own);
 }
 
@@ -77,6 +92,7 @@ pub fn emit_parts(
     members: &[u32],
     starts: &[u32],
     sizes: &[f64],
+    marks: &[u8],
     bits: &[u64],
     number: ChunkIdx,
     at: usize,
@@ -85,13 +101,15 @@ pub fn emit_parts(
     name_of: &mut [u32],
     size_of: &mut [f64],
     bits_of: &mut [u64],
+    mark_of: &mut [u8],
 )
-    requires { ⌜ Parts (now bits) (now members) (now starts) (now sizes) (record {
+    requires { ⌜ Parts (now bits) (now members) (now starts) (now sizes) (now marks) (record {
       chunk-of = now «chunk_of»;
       group-of = now «group_of»;
       name-of = now «name_of»;
       size-of = now «size_of»;
       bits-of = now «bits_of»;
+      mark-of = now «mark_of»;
     }) at ⌝ }
     requires { ⌜ number .0 + length (now starts) < 2 ^ 32 ⌝ }
     ensures { λ _. ⌜ record {
@@ -100,13 +118,16 @@ pub fn emit_parts(
       name-of = now («name_of» .exit);
       size-of = now («size_of» .exit);
       bits-of = now («bits_of» .exit);
+      mark-of = now («mark_of» .exit);
     } ≡ withChunks (now (bits .entry)) (number .0) at
-        (emissions head (partsFrom (now (members .entry)) (length (now (members .entry))) (now (starts .entry))) (now (sizes .entry))) (record {
+        (emissions head (partsFrom (now (members .entry)) (length (now (members .entry))) (now (starts .entry)))
+        (now (sizes .entry)) (now (marks .entry))) (record {
           chunk-of = now («chunk_of» .entry);
           group-of = now («group_of» .entry);
           name-of = now («name_of» .entry);
           size-of = now («size_of» .entry);
           bits-of = now («bits_of» .entry);
+          mark-of = now («mark_of» .entry);
         }) ⌝ }
 {
     let mut end = members.len();
@@ -118,6 +139,7 @@ pub fn emit_parts(
             head,
             &members[start..end],
             sizes[j],
+            marks[j],
             bits,
             next,
             at + j,
@@ -126,6 +148,7 @@ pub fn emit_parts(
             name_of,
             size_of,
             bits_of,
+            mark_of,
         );
         end = start;
         j = j + 1;

@@ -37,6 +37,7 @@ fn convert_divided(
     name_of: &mut [u32],
     size_of: &mut [f64],
     bits_of: &mut [u64],
+    mark_of: &mut [u8],
 ) -> usize
     requires { ⌜ DividedReady (record {
       bytes = now (bytes);
@@ -49,6 +50,7 @@ fn convert_divided(
       name-of = now («name_of»);
       size-of = now («size_of»);
       bits-of = now («bits_of»);
+      mark-of = now («mark_of»);
     }) (now set) (settings .threshold) (now «kind_bits») (now divided) (now members) ⌝ }
     ensures { λ r. ⌜ SetTurned (record {
       bytes = now (bytes .entry);
@@ -62,12 +64,14 @@ fn convert_divided(
           name-of = now («name_of» .entry);
           size-of = now («size_of» .entry);
           bits-of = now («bits_of» .entry);
+          mark-of = now («mark_of» .entry);
         }) (record {
           chunk-of = now («chunk_of» .exit);
           group-of = now («group_of» .exit);
           name-of = now («name_of» .exit);
           size-of = now («size_of» .exit);
           bits-of = now («bits_of» .exit);
+          mark-of = now («mark_of» .exit);
         }) ⌝ }
 {
     let mut list = [0u32; 4096];
@@ -106,6 +110,7 @@ fn convert_divided(
             name_of,
             size_of,
             bits_of,
+            mark_of,
         );
         made = made + more;
         from = to;
@@ -133,6 +138,7 @@ fn convert_few(
     name_of: &mut [u32],
     size_of: &mut [f64],
     bits_of: &mut [u64],
+    mark_of: &mut [u8],
 ) -> usize
     requires { ⌜ SetTurning (record {
       bytes = now (bytes);
@@ -145,6 +151,7 @@ fn convert_few(
       name-of = now («name_of»);
       size-of = now («size_of»);
       bits-of = now («bits_of»);
+      mark-of = now («mark_of»);
     }) (now set) ⌝ }
     requires { ⌜ (length (now set) ≤ 1024) × (length (now set) ≤ n) × (n ≤ 4096) × (3 * n ≤ length (now scratch)) ⌝ }
     ensures { λ r. ⌜ SetTurned (record {
@@ -159,12 +166,14 @@ fn convert_few(
           name-of = now («name_of» .entry);
           size-of = now («size_of» .entry);
           bits-of = now («bits_of» .entry);
+          mark-of = now («mark_of» .entry);
         }) (record {
           chunk-of = now («chunk_of» .exit);
           group-of = now («group_of» .exit);
           name-of = now («name_of» .exit);
           size-of = now («size_of» .exit);
           bits-of = now («bits_of» .exit);
+          mark-of = now («mark_of» .exit);
         }) ⌝ }
     ensures { λ _. ⌜ length (now (scratch .exit)) ≡ length (now (scratch .entry)) ⌝ }
 {
@@ -201,6 +210,7 @@ fn convert_few(
         name_of,
         size_of,
         bits_of,
+        mark_of,
     )
 }
 
@@ -224,6 +234,7 @@ fn convert_many(
     name_of: &mut [u32],
     size_of: &mut [f64],
     bits_of: &mut [u64],
+    mark_of: &mut [u8],
 ) -> usize
     requires { ⌜ SetTurning (record {
       bytes = now (bytes);
@@ -236,6 +247,7 @@ fn convert_many(
       name-of = now («name_of»);
       size-of = now («size_of»);
       bits-of = now («bits_of»);
+      mark-of = now («mark_of»);
     }) (now set) ⌝ }
     requires { ⌜ (length (now set) ≤ n) × (n ≤ 4096) × (3 * n ≤ length (now scratch)) ⌝ }
     ensures { λ r. ⌜ SetTurned (record {
@@ -250,12 +262,14 @@ fn convert_many(
           name-of = now («name_of» .entry);
           size-of = now («size_of» .entry);
           bits-of = now («bits_of» .entry);
+          mark-of = now («mark_of» .entry);
         }) (record {
           chunk-of = now («chunk_of» .exit);
           group-of = now («group_of» .exit);
           name-of = now («name_of» .exit);
           size-of = now («size_of» .exit);
           bits-of = now («bits_of» .exit);
+          mark-of = now («mark_of» .exit);
         }) ⌝ }
     ensures { λ _. ⌜ length (now (scratch .exit)) ≡ length (now (scratch .entry)) ⌝ }
 {
@@ -292,6 +306,7 @@ fn convert_many(
         name_of,
         size_of,
         bits_of,
+        mark_of,
     )
 }
 
@@ -316,6 +331,7 @@ pub fn convert_subgroups(
     name_of: &mut [u32],
     size_of: &mut [f64],
     bits_of: &mut [u64],
+    mark_of: &mut [u8],
 ) -> usize
     requires { ⌜ SetTurning (record {
       bytes = now (bytes);
@@ -328,6 +344,7 @@ pub fn convert_subgroups(
       name-of = now («name_of»);
       size-of = now («size_of»);
       bits-of = now («bits_of»);
+      mark-of = now («mark_of»);
     }) (now set) ⌝ }
     requires { ⌜ (length (now set) ≤ n) × (n ≤ 4096) × (3 * n ≤ length (now scratch)) ⌝ }
     ensures { λ r. ⌜ SetTurned (record {
@@ -342,12 +359,14 @@ pub fn convert_subgroups(
           name-of = now («name_of» .entry);
           size-of = now («size_of» .entry);
           bits-of = now («bits_of» .entry);
+          mark-of = now («mark_of» .entry);
         }) (record {
           chunk-of = now («chunk_of» .exit);
           group-of = now («group_of» .exit);
           name-of = now («name_of» .exit);
           size-of = now («size_of» .exit);
           bits-of = now («bits_of» .exit);
+          mark-of = now («mark_of» .exit);
         }) ⌝ }
     ensures { λ _. ⌜ length (now (scratch .exit)) ≡ length (now (scratch .entry)) ⌝ }
 {
@@ -371,6 +390,7 @@ pub fn convert_subgroups(
             name_of,
             size_of,
             bits_of,
+            mark_of,
         );
     }
     convert_many(
@@ -392,5 +412,6 @@ pub fn convert_subgroups(
         name_of,
         size_of,
         bits_of,
+        mark_of,
     )
 }

@@ -8,13 +8,14 @@ use lib.ListN.{length}
 use Rattle.lists.specs.Same.{sameNumbers}
 use Rattle.whole.specs.Double.{toF64}
 use Rattle.similarity.specs.Similarity.{similarity}
-use Rattle.cut.specs.Cut.{Chosen, none, cut, cutOf}
+use Rattle.cut.specs.Cut.{Chosen, fewerThanTwo, noneAllowed, cut, cutOf}
 use Rattle.merge.specs.Merge.{Merging}
 use Rattle.merge.specs.Tables.{mergeOf, finalSizes, finalBits}
 
--- the cut that a figure names: none, or the index and the whole sizes of the two sides
+-- the cut that a figure names: none of fewer than two modules, none that is allowed, or the index and the whole sizes of the two sides
 pub data Expected : Type 0 where
-  noCut : Expected
+  fewer : Expected
+  notAllowed : Expected
   cutInto : ℕ → ℕ → ℕ → Expected
 
 pub data Figure : Type 0 where
@@ -29,9 +30,14 @@ abbrev pub sameDouble : Float → ℕ → Bool
 sameDouble x n = eqb (toBits binary64 x) (toBits binary64 (toF64 n))
 
 abbrev pub sameCut : Chosen → Expected → Bool
-sameCut none noCut = true
-sameCut none (cutInto j l r) = false
-sameCut (cut i left right) noCut = false
+sameCut fewerThanTwo fewer = true
+sameCut fewerThanTwo notAllowed = false
+sameCut fewerThanTwo (cutInto j l r) = false
+sameCut noneAllowed fewer = false
+sameCut noneAllowed notAllowed = true
+sameCut noneAllowed (cutInto j l r) = false
+sameCut (cut i left right) fewer = false
+sameCut (cut i left right) notAllowed = false
 sameCut (cut i left right) (cutInto j l r) = eqb i j && (sameDouble left l && sameDouble right r)
 
 unfoldable pub sameMerge : ℕ → Merging → List ℕ → List ℕ → List ℕ → Bool

@@ -1,6 +1,6 @@
 -- The marked figures, in document 01's order: Similarity, Cut, Merge.
 use mathlib.Core.List.{List, [], _∷_}
-use Rattle.figures.specs.Figure.{Figure, similar, cuts, merges, noCut, cutInto}
+use Rattle.figures.specs.Figure.{Figure, similar, cuts, merges, notAllowed, cutInto}
 
 unfoldable pub marked : List Figure
 marked =
@@ -25,8 +25,8 @@ marked =
     ∷ cuts ((109 ∷ 49 ∷ []) ∷ (109 ∷ 50 ∷ []) ∷ (109 ∷ 51 ∷ []) ∷ []) (10 ∷ 20 ∷ 30 ∷ []) 0 40 (cutInto 2 30 30)
     -- m1, m2, m3; sizes [10, 20, 30]; minimum 30, maximum 40: cut 2, 30 and 30
     ∷ cuts ((109 ∷ 49 ∷ []) ∷ (109 ∷ 50 ∷ []) ∷ (109 ∷ 51 ∷ []) ∷ []) (10 ∷ 20 ∷ 30 ∷ []) 30 40 (cutInto 2 30 30)
-    -- m1, m2, m3; sizes [10, 20, 30]; minimum 31, maximum 40: none
-    ∷ cuts ((109 ∷ 49 ∷ []) ∷ (109 ∷ 50 ∷ []) ∷ (109 ∷ 51 ∷ []) ∷ []) (10 ∷ 20 ∷ 30 ∷ []) 31 40 noCut
+    -- m1, m2, m3; sizes [10, 20, 30]; minimum 31, maximum 40: none, since no cut is allowed
+    ∷ cuts ((109 ∷ 49 ∷ []) ∷ (109 ∷ 50 ∷ []) ∷ (109 ∷ 51 ∷ []) ∷ []) (10 ∷ 20 ∷ 30 ∷ []) 31 40 notAllowed
     -- ka, kaa, kk; sizes [5, 1, 1]; minimum 0, maximum 10: cut 1, 5 and 2
     ∷ cuts ((107 ∷ 97 ∷ []) ∷ (107 ∷ 97 ∷ 97 ∷ []) ∷ (107 ∷ 107 ∷ []) ∷ []) (5 ∷ 1 ∷ 1 ∷ []) 0 10 (cutInto 1 5 2)
     -- ja, jaa, kk; sizes [5, 1, 1]; minimum 0, maximum 10: cut 2, 6 and 1

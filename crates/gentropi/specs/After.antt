@@ -12,7 +12,7 @@ use Rattle.limit.specs.declared.Limit.the-variants as limit
 use Rattle.filter.specs.declared.MinShareCount.{MinShareCount}
 use Rattle.filter.specs.declared.MinShareCount.the-variants as shares
 use Rattle.filter.specs.declared.StaticFilter.{StaticFilter}
-use Rattle.cut.specs.Cut.{Chosen, none, cut}
+use Rattle.cut.specs.Cut.{Chosen, fewerThanTwo, noneAllowed, cut}
 use Rattle.capture.specs.Capture as capturing
 use Rattle.capture.specs.Call as capture
 use Rattle.merge.specs.Call as merge
@@ -23,18 +23,28 @@ use Rattle.grouping.specs.Written as chunks
 use Rattle.chunk_names.specs.Given as naming
 use Rattle.chunk_names.specs.Call as chunk-names
 
--- the places of a cut: whether there is one, its index and the sizes of its sides
+-- the places of a cut: why there is none, or 0; its index and the sizes of its sides
 pub record CutPlaces : Type 0 where
-  pub found : Bool
+  pub why-none : ℕ
   pub index : ℕ
   pub left : Float
   pub right : Float
 
+-- 1 for fewer than two modules, 2 for no allowed cut
+abbrev pub whyNone : Chosen → ℕ
+whyNone fewerThanTwo = 1
+whyNone noneAllowed = 2
+whyNone (cut i l r) = 0
+
 -- no cut leaves the index and the sizes as they were
+abbrev pub withoutCut : ℕ → CutPlaces → CutPlaces
+withoutCut why p = record { why-none = why; index = p .index; left = p .left; right = p .right }
+
 abbrev pub cutAfter : Outcome Chosen → CutPlaces → CutPlaces
 cutAfter (refused n) p = p
-cutAfter (accepted none) p = record { found = false; index = p .index; left = p .left; right = p .right }
-cutAfter (accepted (cut i l r)) p = record { found = true; index = i; left = l; right = r }
+cutAfter (accepted fewerThanTwo) p = withoutCut (whyNone fewerThanTwo) p
+cutAfter (accepted noneAllowed) p = withoutCut (whyNone noneAllowed) p
+cutAfter (accepted (cut i l r)) p = record { why-none = whyNone (cut i l r); index = i; left = l; right = r }
 
 -- a limit handed over as a bool beside a double, and a least share count as a bool beside a number
 abbrev pub limitGiven : Bool → Float → Limit

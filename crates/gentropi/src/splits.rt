@@ -45,6 +45,7 @@ pub extern "C" fn gentropi_chunks(
     name_of: &mut [u32],
     size_of: &mut [f64],
     bits_of: &mut [u64],
+    mark_of: &mut [u8],
     scratch: &mut [u32],
     count: &mut usize,
 ) -> u32
@@ -91,6 +92,7 @@ pub extern "C" fn gentropi_chunks(
         name-of = now («name_of» .entry);
         size-of = now («size_of» .entry);
         bits-of = now («bits_of» .entry);
+        mark-of = now («mark_of» .entry);
       };
       scratch = now (scratch .entry);
     }) (record {
@@ -101,6 +103,7 @@ pub extern "C" fn gentropi_chunks(
         name-of = now («name_of» .exit);
         size-of = now («size_of» .exit);
         bits-of = now («bits_of» .exit);
+        mark-of = now («mark_of» .exit);
       };
       scratch = now (scratch .exit);
     }) ⌝ }
@@ -149,6 +152,7 @@ pub extern "C" fn gentropi_chunks(
         name_of,
         size_of,
         bits_of,
+        mark_of,
         scratch,
     );
     match answer {

@@ -30,7 +30,7 @@ groupCount = 4
 abbrev pub onEntry : ℕ
 onEntry = 5
 
--- the numbers of tables of numbers: those whose length is implied by counts are 0 to 14, output areas are 16 to 21
+-- the numbers of tables of numbers: those whose length is implied by counts are 0 to 14, output areas are 16 to 22
 abbrev pub sizes : ℕ
 sizes = 0
 
@@ -62,7 +62,7 @@ abbrev pub bytes : ℕ
 bytes = 15
 
 abbrev pub scratch : ℕ
-scratch = 22
+scratch = 23
 
 -- the number of a table of doubles: the groups' limits are 0 to 3, the sizes of chunks 5
 abbrev pub thresholds : ℕ
@@ -144,6 +144,7 @@ areasWith c a =
             name-of = c .numbers 20 (a .records .name-of);
             size-of = c .doubles 5 (a .records .size-of);
             bits-of = c .numbers 21 (a .records .bits-of);
+            mark-of = c .numbers 22 (a .records .mark-of);
           };
       scratch = c .numbers scratch (a .scratch);
     }

@@ -18,6 +18,7 @@ use Rattle.grouping.specs.Item.{Item, withPlaces}
 use Rattle.grouping.specs.Sizes.{itemSize}
 use Rattle.grouping.specs.WorkList.{workList}
 use Rattle.grouping.specs.Fate.{Fate, emptied, dropped, parted, emitted, fateOf}
+use Rattle.grouping.specs.Mark.{markOf}
 
 -- one turn: the item that was taken off the list, and its fate
 pub record Turn : Type 0 where
@@ -56,6 +57,7 @@ pub record Chunk : Type 0 where
   pub name : ℕ
   pub size : Float
   pub bits : BitSet
+  pub mark : ℕ
   pub places : List ℕ
 
 -- the union of the entry bits at places
@@ -73,9 +75,16 @@ abbrev pub chunkBits : Tree → Item → BitSet
 chunkBits tree i = bitsOr (i .bits) (unionAt tree (i .places))
 
 unfoldable pub chunkFrom : Tree → Item → Chunk
-unfolding itemSize unionAt
+unfolding itemSize unionAt markOf
 chunkFrom tree i =
-    record { group = i .group; name = i .name; size = itemSize (i .settings) tree (i .places); bits = chunkBits tree i; places = i .places }
+    record {
+      group = i .group;
+      name = i .name;
+      size = itemSize (i .settings) tree (i .places);
+      bits = chunkBits tree i;
+      mark = markOf (i .settings) tree (i .places);
+      places = i .places;
+    }
 
 -- the chunk of a turn that emits one
 abbrev pub emittedBy : Tree → Fate → Item → List Chunk → List Chunk

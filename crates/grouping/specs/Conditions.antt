@@ -111,7 +111,8 @@ shortModuleArea n a = ltb (length (a .chunk-of)) n || ltb (length (a .next-of)) 
 unfoldable pub shortRecordArea : ℕ → ChunkRecords → Bool
 shortRecordArea n a =
     ltb (length (a .first-of)) n
-    || (ltb (length (a .group-of)) n || (ltb (length (a .name-of)) n || (ltb (length (a .size-of)) n || ltb (length (a .bits-of)) (4 * n))))
+    || (ltb (length (a .group-of)) n || (ltb (length (a .name-of)) n || (ltb (length (a .size-of)) n
+    || (ltb (length (a .bits-of)) (4 * n) || ltb (length (a .mark-of)) n))))
 
 unfoldable pub badArea : ℕ → Areas → Bool
 unfolding shortModuleArea shortRecordArea

@@ -28,20 +28,27 @@ lent spare x n p =
             name-of = range (5 * x) (n + spare);
             size-of = map toF64 (range (6 * x) (n + spare));
             bits-of = range (7 * x) (4 * (n + spare));
+            mark-of = range (9 * x) (n + spare);
           };
       scratch = range (8 * x) (p * n + 32 * n + spare);
     }
 
--- one chunk record: first module plus 1, group, name, size as a whole number, and its entry bits
+-- one chunk record: its mark, first module plus 1, group, name, size as a whole number, and its entry bits
 pub record ChunkRow : Type 0 where
+  pub mark : ℕ
   pub first : ℕ
   pub group : ℕ
   pub name : ℕ
   pub size : ℕ
   pub entries : ℕ
 
+abbrev pub marked : ℕ → ℕ → ℕ → ℕ → ℕ → ℕ → ChunkRow
+marked mark first group name size entries =
+    record { mark = mark; first = first; group = group; name = name; size = size; entries = entries }
+
+-- one within its maximum or without one
 abbrev pub chunk : ℕ → ℕ → ℕ → ℕ → ℕ → ChunkRow
-chunk first group name size entries = record { first = first; group = group; name = name; size = size; entries = entries }
+chunk = marked 0
 
 -- Those areas after a call whose first new chunk has record `at`: what is written, and what lies before and past it as it was; scratch as zeros.
 unfoldable pub filled : ℕ → ℕ → ℕ → ℕ → ℕ → List ℕ → List ℕ → List ChunkRow → Areas
@@ -58,6 +65,7 @@ filled at spare x n p chunk-of next-of chunks =
             name-of = range (5 * x) at ++ (map (λ c. c .name) chunks ++ range (5 * x + end) past);
             size-of = map toF64 (range (6 * x) at ++ (map (λ c. c .size) chunks ++ range (6 * x + end) past));
             bits-of = range (7 * x) (4 * at) ++ (foldr (λ c rest. wordsOf (c .entries) ++ rest) [] chunks ++ range (7 * x + 4 * end) (4 * past));
+            mark-of = range (9 * x) at ++ (map (λ c. c .mark) chunks ++ range (9 * x + end) past);
           };
       scratch = replicate (p * n + 32 * n + spare) 0;
     }
@@ -109,7 +117,7 @@ unfolding sameNumbers toBits
 sameRecords a b =
     sameNumbers (a .first-of) (b .first-of)
     && (sameNumbers (a .group-of) (b .group-of) && (sameNumbers (a .name-of) (b .name-of)
-    && (sameDoubles (a .size-of) (b .size-of) && sameNumbers (a .bits-of) (b .bits-of))))
+    && (sameDoubles (a .size-of) (b .size-of) && (sameNumbers (a .bits-of) (b .bits-of) && sameNumbers (a .mark-of) (b .mark-of)))))
 
 unfoldable pub sameAreas : Areas → Areas → Bool
 unfolding sameModules sameRecords sameNumbers

@@ -10,7 +10,7 @@ use Rattle.lists.specs.Sort.{sortBy}
 use Rattle.limit.specs.declared.Limit.{Limit}
 use Rattle.limit.specs.declared.Limit.the-variants.{Absent, Given}
 use Rattle.ids.specs.Order.{before}
-use Rattle.cut.specs.Cut.{Chosen, none, cut, cutOf}
+use Rattle.cut.specs.Cut.{Chosen, fewerThanTwo, noneAllowed, cut, cutOf}
 use Rattle.options.specs.declared.Settings.{Settings}
 use Rattle.grouping.specs.Tree.{Tree, memberAt}
 use Rattle.grouping.specs.Sizes.{sizesAt, itemSize}
@@ -33,7 +33,8 @@ among side places = keep (λ p. elem p side) places
 
 -- "cut by these two limits if it can be", "Otherwise it becomes a chunk"
 abbrev pub partedBy : List ℕ → List ℕ → Chosen → Fate
-partedBy places ordered none = emitted
+partedBy places ordered fewerThanTwo = emitted
+partedBy places ordered noneAllowed = emitted
 partedBy places ordered (cut i left right) = parted (among (take i ordered) places) (among (drop i ordered) places)
 
 unfoldable pub cutFate : Settings → Tree → Float → List ℕ → Fate

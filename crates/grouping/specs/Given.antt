@@ -64,13 +64,14 @@ pub record ModuleAreas : Type 0 where
   pub chunk-of : List ℕ
   pub next-of : List ℕ
 
--- per chunk: first module plus 1, group, name, size and entry bits (four words)
+-- per chunk: first module plus 1, group, name, size, entry bits (four words) and mark
 pub record ChunkRecords : Type 0 where
   pub first-of : List ℕ
   pub group-of : List ℕ
   pub name-of : List ℕ
   pub size-of : List Float
   pub bits-of : List ℕ
+  pub mark-of : List ℕ
 
 -- the lent areas
 pub record Areas : Type 0 where

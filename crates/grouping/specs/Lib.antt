@@ -9,6 +9,7 @@ pub mod Item
 pub mod Subgroups
 pub mod WorkList
 pub mod Fate
+pub mod Mark
 pub mod ChunkList
 pub mod Written
 pub mod Conditions
@@ -18,6 +19,7 @@ pub mod Builds
 pub mod SetBuilds
 pub mod ItemBuilds
 pub mod OrderBuilds
+pub mod MarkBuilds
 pub mod TwinBuilds
 pub mod Expected
 pub mod Changes

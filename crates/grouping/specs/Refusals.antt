@@ -176,7 +176,7 @@ unfolding changed range
 ofState =
     answered 0 (count onEntry 65535)
     -- 12: each area one entry short
-    ∷ (answeredEach 12 short (range 16 6)
+    ∷ (answeredEach 12 short (range 16 7)
     ++ (answered 12 (shortDoubles 5)
     -- 13: a pair more; an answer of 1, which is none; and a pair less
     ∷ answered 13 (entry answers 7 4)

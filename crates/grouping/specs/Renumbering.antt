@@ -58,6 +58,7 @@ pub record SameRecord (ρ : ℕ → ℕ) (a b : Areas) (chunk : ℕ) : Type 0 wh
   pub name : getD (b .records .name-of) chunk 0 ≡ getD (a .records .name-of) chunk 0
   pub size : getD (b .records .size-of) chunk (toF64 0) ≡ getD (a .records .size-of) chunk (toF64 0)
   pub bits : rowOf (b .records .bits-of) chunk ≡ rowOf (a .records .bits-of) chunk
+  pub mark : getD (b .records .mark-of) chunk 0 ≡ getD (a .records .mark-of) chunk 0
 
 -- "each module has the chunk number of the module its number goes to, and that one's next is its next translated"
 pub record SamePlace (ρ : ℕ → ℕ) (a b : Areas) (m : ℕ) : Type 0 where

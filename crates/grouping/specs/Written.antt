@@ -71,6 +71,7 @@ writtenRecords at b before =
       name-of = placed at (map (λ c. c .name) (chunkList b)) (before .name-of);
       size-of = placed at (map (λ c. c .size) (chunkList b)) (before .size-of);
       bits-of = placed (4 * at) (bitWords (chunkList b)) (before .bits-of);
+      mark-of = placed at (map (λ c. c .mark) (chunkList b)) (before .mark-of);
     }
 
 -- The content of the areas after an accepted call whose first new chunk has record `at`: entries past N and other records as they were, all of

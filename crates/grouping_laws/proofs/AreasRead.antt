@@ -30,7 +30,8 @@ range-read f n tail i d h =
     ∙ getD-map-below f (range 0 n) i d 0 within
     ∙ ap f (getD-range 0 n i 0 h ∙ zero-add i)
 
-map-read : {A B : Type 0} (f : A → B) (l : List A) (before : List B) (i : ℕ) (d : B) → i < length l → getD (placed 0 (map f l) before) i d ≡ getD (map f l) i d
+map-read : {A B : Type 0} (f : A → B) (l : List A) (before : List B) (i : ℕ) (d : B) → i < length l
+    → getD (placed 0 (map f l) before) i d ≡ getD (map f l) i d
 map-read f l before i d h = List·getD-append (map f l) (drop (0 + length (map f l)) before) d i (rw (length-map l f) h)
 
 words-length : (chunks : List Chunk) → ((c : Chunk) → List·Memᴰ c chunks → length (c .bits .words) ≡ 4) → length (bitWords chunks) ≡ 4 * length chunks
@@ -75,6 +76,10 @@ module _ (b : Given) (before : Areas) where
     pub size-read : getD (written 0 b before .records .size-of) k (toF64 0) ≡ getD (map (λ c. c .size) (chunkList b)) k (toF64 0)
     unfolding written writtenModules writtenRecords
     size-read = map-read (λ c. c .size) (chunkList b) (before .records .size-of) k (toF64 0) h
+
+    pub mark-read : getD (written 0 b before .records .mark-of) k 0 ≡ getD (map (λ c. c .mark) (chunkList b)) k 0
+    unfolding written writtenModules writtenRecords
+    mark-read = map-read (λ c. c .mark) (chunkList b) (before .records .mark-of) k 0 h
 
     pub bits-read : Sound b → rowOf (written 0 b before .records .bits-of) k ≡ rowOf (bitWords (chunkList b)) k
     unfolding written writtenModules writtenRecords

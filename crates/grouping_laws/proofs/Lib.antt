@@ -22,3 +22,4 @@ pub mod KindsEnough
 pub mod AlikeBuilds
 pub mod LowestNumber
 pub mod SmallestIds
+pub mod Marks

@@ -20,7 +20,7 @@ use Rattle.lists.proofs.Sort.{Pairs, pairs-weaker, sort-mem, mem-sort}
 use Rattle.limit.specs.declared.Limit.{Limit}
 use Rattle.limit.specs.declared.Limit.the-variants.{Absent, Given}
 use Rattle.ids.specs.Order.{before}
-use Rattle.cut.specs.Cut.{Chosen, none, cut, cutOf}
+use Rattle.cut.specs.Cut.{Chosen, fewerThanTwo, noneAllowed, cut, cutOf}
 use Rattle.cut.proofs.Answer.{there-is-a-cut}
 use Rattle.options.specs.declared.Settings.{Settings}
 use Rattle.grouping.specs.Tree.{Tree, memberAt}
@@ -141,7 +141,8 @@ module _ (tree : Tree) (places : List ℕ) (ascend : Ascending places) (some : 1
       sizes = sizesAt r tree ordered
 
       go : (c : Chosen) → cutOf ids sizes (r .«min_size») maximum ≡ c → OfFate places (partedBy places ordered c)
-      go none e = some
+      go fewerThanTwo e = some
+      go noneAllowed e = some
       go (cut i left right) e =
           let a = there-is-a-cut ids sizes (r .«min_size») maximum i left right e in
           pieces places ordered ascend order-distinct order-there order-back i (a .from-one) (rw (length-map ordered (λ p. memberAt tree p .id)) at (a .inside))

@@ -13,7 +13,7 @@ use Rattle.grouping.specs.Call.{ChunksCall}
 use Rattle.grouping.specs.Renumbering.{Renumbering, Alike, translated, SameRecord, SamePlace, SameList, RenumberingRule}
 use Rattle.grouping_laws.proofs.Accepted.{Sound, count-is, sound}
 use Rattle.grouping_laws.proofs.TreeEqual.{chunks-same}
-use Rattle.grouping_laws.proofs.AreasRead.{chunk-read, next-read, first-read, group-read, name-read, size-read, bits-read}
+use Rattle.grouping_laws.proofs.AreasRead.{chunk-read, next-read, first-read, group-read, name-read, size-read, mark-read, bits-read}
 use Rattle.grouping_laws.proofs.Translated.{members-within, members-same, first-translated, number-translated, next-translated}
 
 module _ {ρ : ℕ → ℕ} {a b : Given} (r : Renumbering (a .shared .n) ρ) (alike : Alike ρ a b) (sa : Sound a) (sb : Sound b) (before before′ : Areas) where
@@ -37,6 +37,7 @@ module _ {ρ : ℕ → ℕ} {a b : Given} (r : Renumbering (a .shared .n) ρ) (a
         name = name-read b before′ k g ∙ ap (λ (l : List Chunk). getD (map (λ c. c .name) l) k 0) chunks ∙ sym (name-read a before k h);
         size = size-read b before′ k g ∙ ap (λ (l : List Chunk). getD (map (λ c. c .size) l) k (toF64 0)) chunks ∙ sym (size-read a before k h);
         bits = bits-read b before′ k g sb ∙ ap (λ (l : List Chunk). rowOf (bitWords l) k) chunks ∙ sym (bits-read a before k h sa);
+        mark = mark-read b before′ k g ∙ ap (λ (l : List Chunk). getD (map (λ c. c .mark) l) k 0) chunks ∙ sym (mark-read a before k h);
       }
 
   place-same : (m : ℕ) → m < a .shared .n → SamePlace ρ (written 0 a before) (written 0 b before′) m

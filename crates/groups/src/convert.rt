@@ -45,6 +45,7 @@ fn convert_group(
     name_of: &mut [u32],
     size_of: &mut [f64],
     bits_of: &mut [u64],
+    mark_of: &mut [u8],
 ) -> usize
     requires { ⌜ GroupTurning (record { bytes = now bytes; offsets = now offsets; sizes = now sizes; rank = now rank })
         (record { flags = now flags; first = now first; dependency = now dependency; next = now next; order = now order }) (now bits)
@@ -55,6 +56,7 @@ fn convert_group(
           name-of = now «name_of»;
           size-of = now «size_of»;
           bits-of = now «bits_of»;
+          mark-of = now «mark_of»;
         }) ⌝ }
     requires { ⌜ NamesRoom n (now flags) (now order) (now place) (now marks) (now followed) (now set) (now scratch)
         × (length (now order) ≤ length (now matched))
@@ -79,6 +81,7 @@ fn convert_group(
           name-of = now («name_of» .entry);
           size-of = now («size_of» .entry);
           bits-of = now («bits_of» .entry);
+          mark-of = now («mark_of» .entry);
         })
         (record {
           chunk-of = now («chunk_of» .exit);
@@ -86,6 +89,7 @@ fn convert_group(
           name-of = now («name_of» .exit);
           size-of = now («size_of» .exit);
           bits-of = now («bits_of» .exit);
+          mark-of = now («mark_of» .exit);
         }) ⌝ }
     ensures { λ _. ⌜ (length (now (marks .exit)) ≡ length (now (marks .entry))) × (length (now (set .exit)) ≡ length (now (set .entry)))
         × (length (now (matched .exit)) ≡ length (now (matched .entry)))
@@ -122,6 +126,7 @@ fn convert_group(
         name_of,
         size_of,
         bits_of,
+        mark_of,
     )
 }
 
@@ -151,6 +156,7 @@ pub fn convert_groups_to_chunks(
     name_of: &mut [u32],
     size_of: &mut [f64],
     bits_of: &mut [u64],
+    mark_of: &mut [u8],
 ) -> usize
     requires { ⌜ GroupsTurning (record { bytes = now bytes; offsets = now offsets; sizes = now sizes; rank = now rank })
         (record { flags = now flags; first = now first; dependency = now dependency; next = now next; order = now order }) (now bits)
@@ -161,6 +167,7 @@ pub fn convert_groups_to_chunks(
           name-of = now «name_of»;
           size-of = now «size_of»;
           bits-of = now «bits_of»;
+          mark-of = now «mark_of»;
         }) ⌝ }
     requires { ⌜ 3 * n ≤ length (now scratch) ⌝ }
     ensures { λ r. ⌜ GroupsTurned (record {
@@ -187,6 +194,7 @@ pub fn convert_groups_to_chunks(
           name-of = now («name_of» .entry);
           size-of = now («size_of» .entry);
           bits-of = now («bits_of» .entry);
+          mark-of = now («mark_of» .entry);
         })
         (record {
           chunk-of = now («chunk_of» .exit);
@@ -194,6 +202,7 @@ pub fn convert_groups_to_chunks(
           name-of = now («name_of» .exit);
           size-of = now («size_of» .exit);
           bits-of = now («bits_of» .exit);
+          mark-of = now («mark_of» .exit);
         }) ⌝ }
     ensures { λ _. ⌜ (length (now (scratch .exit)) ≡ length (now (scratch .entry))) ⌝ }
 {
@@ -244,6 +253,7 @@ pub fn convert_groups_to_chunks(
                 name_of,
                 size_of,
                 bits_of,
+                mark_of,
             );
         i = i + 1;
     }

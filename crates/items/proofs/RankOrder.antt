@@ -63,6 +63,7 @@ module _ {l m : List ℕ} (d : List·Permᴰ l m) where
         names = r .names;
         sizes = r .sizes;
         words = r .words;
+        marks = r .marks;
         numbered = perm-each (λ k. k < length (w .chunk-of)) d (r .numbered);
         has-bits = perm-each (λ k. 4 * k + 4 ≤ length bits) d (r .has-bits);
       }

@@ -24,15 +24,16 @@ module _ {t : Tables} {bits modules : List ℕ} {w : Work} {number at : ℕ} (r 
 
 module _ (t : Tables) (modules : List ℕ) {total : Float} (total-is : total ≡ sumF64 (sizesIn (t .sizes) modules)) where
   -- one chunk of all the modules
-  pub whole-converted : {bits : List ℕ} {number at : ℕ} {head : Head} {before after : Work} {es : List Emission} → es ≡ chunkOf (t .sizes) head modules ∷ []
-      → after ≡ withChunk bits number at (record { head = head; modules = modules; size = total }) before → Converted es bits number at 1 before after
+  pub whole-converted : {bits : List ℕ} {number at : ℕ} {head : Head} {before after : Work} {es : List Emission} → es ≡ chunkOf (t .sizes) head 0 modules ∷ []
+      → after ≡ withChunk bits number at (record { head = head; modules = modules; size = total; mark = 0 }) before
+      → Converted es bits number at 1 before after
   unfolding withChunks
   whole-converted {bits} {number} {at} {head} {before} e a =
       record {
         made = sym (ap length e);
         areas =
             a
-            ∙ ap (λ (s : Float). withChunk bits number at (record { head = head; modules = modules; size = s }) before) total-is
+            ∙ ap (λ (s : Float). withChunk bits number at (record { head = head; modules = modules; size = s; mark = 0 }) before) total-is
             ∙ sym (ap (λ (es : List Emission). withChunks bits number at es before) e);
       }
 

@@ -39,7 +39,7 @@ overLimit (Given maximum) size = overIf (lt maximum size) maximum
 
 -- "One strictly above max_size is … cut by these two limits if it can be"
 abbrev pub emittedOver : Limit → Tables → Head → Float → List ℕ → List Emission
-emittedOver Absent t head minimum modules = chunkOf (t .sizes) head modules ∷ []
+emittedOver Absent t head minimum modules = chunkOf (t .sizes) head 0 modules ∷ []
 emittedOver (Given maximum) t head minimum modules = inPieces t head minimum maximum modules
 
 abbrev pub emittedWithin : Limit → Tables → Head → Float → List ℕ → List Emission

@@ -5,6 +5,7 @@ use emitting::emit::emit_chunk;
 use index::ChunkIdx;
 use left::keep_left;
 use limit::Limit;
+use oversized::marks::WITHIN;
 use oversized::order::in_id_order;
 use pieces::emit_oversized;
 ghost use mathlib.Core.Path.{_≡_};
@@ -51,6 +52,7 @@ fn emit_over_maximum(
     name_of: &mut [u32],
     size_of: &mut [f64],
     bits_of: &mut [u64],
+    mark_of: &mut [u8],
 ) -> usize
     requires { ⌜ ItemReady (record {
       bytes = now bytes;
@@ -63,6 +65,7 @@ fn emit_over_maximum(
       name-of = now «name_of»;
       size-of = now «size_of»;
       bits-of = now «bits_of»;
+      mark-of = now «mark_of»;
     }) (number .0) at ⌝ }
     requires { ⌜ Totalled (now sizes) (now members) total ⌝ }
     ensures { λ r. ⌜ Converted (inPieces (record {
@@ -76,12 +79,14 @@ fn emit_over_maximum(
       name-of = now («name_of» .entry);
       size-of = now («size_of» .entry);
       bits-of = now («bits_of» .entry);
+      mark-of = now («mark_of» .entry);
     }) (record {
       chunk-of = now («chunk_of» .exit);
       group-of = now («group_of» .exit);
       name-of = now («name_of» .exit);
       size-of = now («size_of» .exit);
       bits-of = now («bits_of» .exit);
+      mark-of = now («mark_of» .exit);
     }) ⌝ }
 {
     in_id_order(rank, members);
@@ -102,6 +107,7 @@ fn emit_over_maximum(
         name_of,
         size_of,
         bits_of,
+        mark_of,
     )
 }
 
@@ -123,6 +129,7 @@ fn emit_item(
     name_of: &mut [u32],
     size_of: &mut [f64],
     bits_of: &mut [u64],
+    mark_of: &mut [u8],
 ) -> usize
     requires { ⌜ ItemReady (record {
       bytes = now bytes;
@@ -135,6 +142,7 @@ fn emit_item(
       name-of = now «name_of»;
       size-of = now «size_of»;
       bits-of = now «bits_of»;
+      mark-of = now «mark_of»;
     }) (number .0) at ⌝ }
     requires { ⌜ Totalled (now sizes) (now members) total ⌝ }
     ensures { λ r. ⌜ Converted (emittedWithin (limits .maximum) (record {
@@ -148,12 +156,14 @@ fn emit_item(
       name-of = now («name_of» .entry);
       size-of = now («size_of» .entry);
       bits-of = now («bits_of» .entry);
+      mark-of = now («mark_of» .entry);
     }) (record {
       chunk-of = now («chunk_of» .exit);
       group-of = now («group_of» .exit);
       name-of = now («name_of» .exit);
       size-of = now («size_of» .exit);
       bits-of = now («bits_of» .exit);
+      mark-of = now («mark_of» .exit);
     }) ⌝ }
 {
     let minimum = limits.minimum;
@@ -164,6 +174,7 @@ fn emit_item(
             head,
             members,
             total,
+            WITHIN,
             bits,
             number,
             at,
@@ -172,6 +183,7 @@ fn emit_item(
             name_of,
             size_of,
             bits_of,
+            mark_of,
         );
         return 1;
     };
@@ -203,6 +215,7 @@ fn emit_item(
             name_of,
             size_of,
             bits_of,
+            mark_of,
         );
     }
     let plain = Head {
@@ -229,6 +242,7 @@ fn emit_item(
         name_of,
         size_of,
         bits_of,
+        mark_of,
     )
 }
 
@@ -250,6 +264,7 @@ pub fn convert_item_to_chunks(
     name_of: &mut [u32],
     size_of: &mut [f64],
     bits_of: &mut [u64],
+    mark_of: &mut [u8],
 ) -> usize
     requires { ⌜ ItemReady (record {
       bytes = now bytes;
@@ -262,6 +277,7 @@ pub fn convert_item_to_chunks(
       name-of = now «name_of»;
       size-of = now «size_of»;
       bits-of = now «bits_of»;
+      mark-of = now «mark_of»;
     }) (number .0) at ⌝ }
     requires { ⌜ Listed (now «chunk_of») (now list) (now members) ⌝ }
     ensures { λ r. ⌜ Converted (emittedFrom (record {
@@ -275,12 +291,14 @@ pub fn convert_item_to_chunks(
       name-of = now («name_of» .entry);
       size-of = now («size_of» .entry);
       bits-of = now («bits_of» .entry);
+      mark-of = now («mark_of» .entry);
     }) (record {
       chunk-of = now («chunk_of» .exit);
       group-of = now («group_of» .exit);
       name-of = now («name_of» .exit);
       size-of = now («size_of» .exit);
       bits-of = now («bits_of» .exit);
+      mark-of = now («mark_of» .exit);
     }) ⌝ }
     ensures { λ _. ⌜ length (now (members .exit)) ≡ length (now (members .entry)) ⌝ }
 {
@@ -309,5 +327,6 @@ pub fn convert_item_to_chunks(
         name_of,
         size_of,
         bits_of,
+        mark_of,
     )
 }

@@ -4,7 +4,7 @@ mod build;
 
 fn main() {
     let mut change = 0;
-    while change < 29 {
+    while change < 30 {
         largestlist::labels::label(change);
         build::run(change);
         change = change + 1;

@@ -37,6 +37,7 @@ pub fn lend(
     let mut name_of = [areas::NUMBER; 4099];
     let mut size_of = [areas::SIZE; 4099];
     let mut bits_of = [areas::WORD; 16396];
+    let mut mark_of = [areas::BYTE; 4099];
     let mut scratch = [areas::NUMBER; 393219];
     let answer = plainsplit::split(
         counts.n,
@@ -74,6 +75,7 @@ pub fn lend(
         areas::lent_numbers(&mut name_of, lent.name_of),
         areas::lent_sizes(&mut size_of, lent.size_of),
         areas::lent_words(&mut bits_of, lent.bits_of),
+        areas::lent_bytes(&mut mark_of, lent.mark_of),
         areas::lent_numbers(&mut scratch, lent.scratch),
     );
     show::show(
@@ -85,6 +87,7 @@ pub fn lend(
         &name_of,
         &size_of,
         &bits_of,
+        &mark_of,
         &scratch,
     );
 }

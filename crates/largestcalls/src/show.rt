@@ -13,13 +13,14 @@ pub fn show(
     name_of: &[u32; 4099],
     size_of: &[f64; 4099],
     bits_of: &[u64; 16396],
+    mark_of: &[u8; 4099],
     scratch: &[u32; 393219],
 ) {
     match answer {
         ChunksAnswer::Refused(number) => {
             out::refused(number);
             looks::modules(0, chunk_of, next_of);
-            looks::records(0, first_of, group_of, name_of, size_of, bits_of);
+            looks::records(0, first_of, group_of, name_of, size_of, bits_of, mark_of);
             looks::scratch(0, scratch);
         }
         ChunksAnswer::Made(count) => {
@@ -32,6 +33,7 @@ pub fn show(
                 name_of,
                 size_of,
                 bits_of,
+                mark_of,
                 scratch,
             );
         }

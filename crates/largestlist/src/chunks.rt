@@ -1,4 +1,4 @@
-// A line for each chunk: its number, group, name, size, entry bits, first module, last module and how many modules there are.
+// A line for each chunk: its number, group, name, size, entry bits, mark, first module, last module and how many modules there are.
 use crate::looks;
 use textform::out;
 ghost use Prim.Native.Nat.{_<_, _≤_};
@@ -28,6 +28,12 @@ fn bits(r: usize, bits_of: &[u64; 16396])
     word(bits_of[from + 1]);
     word(bits_of[from + 2]);
     word(bits_of[from + 3]);
+}
+
+// A chunk's mark: whether it is above its maximum, and why.
+fn mark(held: u8) {
+    out::blank();
+    out::number(held as u64);
 }
 
 // One module further, if it is one of this chunk. What is held plus 1 is a chunk and a next module.
@@ -93,6 +99,7 @@ fn chunk(
     name_of: &[u32; 4099],
     size_of: &[f64; 4099],
     bits_of: &[u64; 16396],
+    mark_of: &[u8; 4099],
 )
     requires { ⌜ r < 4096 ⌝ }
 {
@@ -103,6 +110,7 @@ fn chunk(
     column(name_of[r]);
     out::size(size_of[r]);
     bits(r, bits_of);
+    mark(mark_of[r]);
     let end = follow(first, held, chunk_of, next_of);
     column(less_one(first));
     column(end.last);
@@ -123,6 +131,7 @@ fn chunks(
     name_of: &[u32; 4099],
     size_of: &[f64; 4099],
     bits_of: &[u64; 16396],
+    mark_of: &[u8; 4099],
 )
     requires { ⌜ count ≤ 4096 ⌝ }
 {
@@ -137,6 +146,7 @@ fn chunks(
             name_of,
             size_of,
             bits_of,
+            mark_of,
         );
         i = i + 1;
     }
@@ -161,6 +171,7 @@ pub fn made(
     name_of: &[u32; 4099],
     size_of: &[f64; 4099],
     bits_of: &[u64; 16396],
+    mark_of: &[u8; 4099],
     scratch: &[u32; 393219],
 ) {
     let made = least(count, 4096);
@@ -176,8 +187,9 @@ pub fn made(
         name_of,
         size_of,
         bits_of,
+        mark_of,
     );
     looks::modules(4096, chunk_of, next_of);
-    looks::records(made, first_of, group_of, name_of, size_of, bits_of);
+    looks::records(made, first_of, group_of, name_of, size_of, bits_of, mark_of);
     looks::scratch(393216, scratch);
 }

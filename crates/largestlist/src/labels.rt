@@ -54,7 +54,7 @@ fn values(change: usize) {
 
 fn areas(change: usize) {
     write_line(
-        b"chunk_of\nnext_of\nfirst_of\ngroup_of\nname_of\nsize_of\nbits_of\nscratch\n",
+        b"chunk_of\nnext_of\nfirst_of\ngroup_of\nname_of\nsize_of\nbits_of\nmark_of\nscratch\n",
         change,
     );
     out::text(b" one short");
@@ -66,7 +66,7 @@ pub fn label(change: usize) {
         7..=11 => modules(change - 7),
         12..=15 => records(change - 12),
         16..=20 => values(change - 16),
-        21..=28 => areas(change - 21),
+        21..=29 => areas(change - 21),
         _ => {}
     }
 }

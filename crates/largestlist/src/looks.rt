@@ -23,6 +23,7 @@ pub fn records(
     name_of: &[u32; 4099],
     size_of: &[f64; 4099],
     bits_of: &[u64; 16396],
+    mark_of: &[u8; 4099],
 )
     requires { ⌜ from ≤ 4096 ⌝ }
 {
@@ -34,6 +35,9 @@ pub fn records(
     }
     if !areas::words_kept(bits_of, 4 * from) {
         warn(b"bits_of was written");
+    }
+    if !areas::bytes_kept(mark_of, from) {
+        warn(b"mark_of was written");
     }
 }
 

@@ -21,6 +21,7 @@ pub struct Lent {
     pub name_of: usize,
     pub size_of: usize,
     pub bits_of: usize,
+    pub mark_of: usize,
     pub scratch: usize,
 }
 
@@ -94,6 +95,7 @@ pub fn lent_under(change: usize) -> Lent {
         name_of: one_less(4096, change, 25),
         size_of: one_less(4096, change, 26),
         bits_of: one_less(16384, change, 27),
-        scratch: one_less(393216, change, 28),
+        mark_of: one_less(4096, change, 28),
+        scratch: one_less(393216, change, 29),
     }
 }

@@ -20,7 +20,7 @@ use Rattle.grouping_laws.proofs.ChunkPlaces.{Apart}
 use Rattle.emitting.specs.Emitted.{Work, Emission, withChunks}
 use Rattle.emitting.proofs.Chunks.{chunks-lengths}
 use Rattle.emitting.proofs.Numbers as emissions
-use Rattle.emitting.proofs.RecordsRead.{groups-read, names-read, sizes-read, words-read}
+use Rattle.emitting.proofs.RecordsRead.{groups-read, names-read, sizes-read, marks-read, words-read}
 use Rattle.linking.specs.Made.{modulesOf, modulesOfEach, Fresh, Made, AllMatch, HasRoom, none, more}
 use Rattle.lists.proofs.Elem.{not-elem}
 use Rattle.linking.proofs.Found.{none-number}
@@ -56,6 +56,7 @@ made-start b at {before} {now} f = record {
   names = f .names ∙ sym (placed-none at (before .name-of));
   sizes = f .sizes ∙ sym (placed-none at (before .size-of));
   bits = f .bits ∙ sym (placed-none (4 * at) (before .bits-of));
+  marks = f .marks ∙ sym (placed-none at (before .mark-of));
   four-words = λ c i. absurd (List·Memᴰ·not-nil i);
 }
 
@@ -167,5 +168,10 @@ module _ (b : Given) (at : ℕ) (chunks new : List Chunk) (es : List Emission) (
         ∙ ap (λ l. placed (at + length chunks) l (now .size-of)) (matched-map b (λ e. e .size) (λ c. c .size) (λ e c h. h .size) matched)
         ∙ area-more (λ c. c .size) (before .size-of) (now .size-of) (made .sizes) (room .sizes);
     bits = words-more;
+    marks =
+        marks-read (b .shared .bits) number (at + length chunks) es now
+        (area-room (λ c. c .mark) (before .mark-of) (now .mark-of) (made .marks) (room .marks))
+        ∙ ap (λ l. placed (at + length chunks) l (now .mark-of)) (matched-map b (λ e. e .mark) (λ c. c .mark) (λ e c h. h .mark) matched)
+        ∙ area-more (λ c. c .mark) (before .mark-of) (now .mark-of) (made .marks) (room .marks);
     four-words = λ c i. ⊎-elim (made .four-words c) (matched-four b matched c) (List·Memᴰ·append-cases chunks i);
   }

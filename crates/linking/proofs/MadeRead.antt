@@ -50,4 +50,5 @@ module _ {b : Given} {at : ℕ} {chunks : List Chunk} {before now : Work} where
     bits-of =
         ap length (made .bits)
         ∙ placed-length (4 * at) (bitWords chunks) (before .bits-of) (rw (words-count chunks (made .four-words)) (room .words));
+    mark-of = ap length (made .marks) ∙ area-length at chunks (λ c. c .mark) (before .mark-of) (room .marks);
   }

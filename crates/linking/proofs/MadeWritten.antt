@@ -75,6 +75,7 @@ module _ (b : Given) (at : ℕ) (before now : Work) (made : Made b at (chunkList
       name-of = made .names i;
       size-of = made .sizes i;
       bits-of = made .bits i;
+      mark-of = made .marks i;
     }
 
     pub made-written : (moduleAreas now linksNow ≡ writtenModules b (moduleAreas before links))

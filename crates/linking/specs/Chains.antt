@@ -27,4 +27,11 @@ moduleAreas w l = record { chunk-of = w .chunk-of; next-of = l .next-of }
 
 abbrev pub chunkRecords : Work → Links → ChunkRecords
 chunkRecords w l =
-    record { first-of = l .first-of; group-of = w .group-of; name-of = w .name-of; size-of = w .size-of; bits-of = w .bits-of }
+    record {
+      first-of = l .first-of;
+      group-of = w .group-of;
+      name-of = w .name-of;
+      size-of = w .size-of;
+      bits-of = w .bits-of;
+      mark-of = w .mark-of;
+    }

@@ -25,6 +25,7 @@ pub record Made (b : Given) (at : ℕ) (chunks : List Chunk) (before now : Work)
   pub names : now .name-of ≡ placed at (map (λ c. c .name) chunks) (before .name-of)
   pub sizes : now .size-of ≡ placed at (map (λ c. c .size) chunks) (before .size-of)
   pub bits : now .bits-of ≡ placed (4 * at) (bitWords chunks) (before .bits-of)
+  pub marks : now .mark-of ≡ placed at (map (λ c. c .mark) chunks) (before .mark-of)
   pub four-words : (c : Chunk) → List·Memᴰ c chunks → length (c .bits .words) ≡ 4
 
 -- zeros for all modules, and all else as it was
@@ -34,6 +35,7 @@ pub record Fresh (b : Given) (before now : Work) : Type 0 where
   pub names : now .name-of ≡ before .name-of
   pub sizes : now .size-of ≡ before .size-of
   pub bits : now .bits-of ≡ before .bits-of
+  pub marks : now .mark-of ≡ before .mark-of
 
 -- a chunk as it is emitted: its modules are the chunk's in any order
 pub record Matches (b : Given) (e : Emission) (c : Chunk) : Type 0 where
@@ -41,6 +43,7 @@ pub record Matches (b : Given) (e : Emission) (c : Chunk) : Type 0 where
   pub name : e .head .name ≡ c .name
   pub size : e .size ≡ c .size
   pub bits : bitsOfChunk (b .shared .bits) (e .head) (e .modules) ≡ c .bits
+  pub mark : e .mark ≡ c .mark
   pub four-words : length (c .bits .words) ≡ 4
   pub there : (m : ℕ) → List·Memᴰ m (e .modules) → List·Memᴰ m (modulesOf b c)
   pub back : (m : ℕ) → List·Memᴰ m (modulesOf b c) → List·Memᴰ m (e .modules)
@@ -57,3 +60,4 @@ pub record HasRoom (at count : ℕ) (w : Work) : Type 0 where
   pub names : at + count ≤ length (w .name-of)
   pub sizes : at + count ≤ length (w .size-of)
   pub words : 4 * at + 4 * count ≤ length (w .bits-of)
+  pub marks : at + count ≤ length (w .mark-of)

@@ -19,6 +19,12 @@ fn bits(r: usize, bits_of: &[u64; 512])
     word(bits_of[from + 3]);
 }
 
+// A chunk's mark: whether it is above its maximum, and why.
+fn mark(held: u8) {
+    out::blank();
+    out::number(held as u64);
+}
+
 // A module, and what the area says after it: the next module plus 1, or 0. Past the last module there is no good number.
 fn module_and_next(m: ModuleIdx, n: usize, next_of: &[u32; 128]) -> u32
     requires { ⌜ n ≤ 128 ⌝ }
@@ -79,6 +85,7 @@ fn chunk(
     name_of: &[u32; 128],
     size_of: &[f64; 128],
     bits_of: &[u64; 512],
+    mark_of: &[u8; 128],
 ) -> bool
     requires { ⌜ (r < 128) × (n ≤ 128) ⌝ }
 {
@@ -92,6 +99,7 @@ fn chunk(
     out::double(size_of[r]);
     out::size(size_of[r]);
     bits(r, bits_of);
+    mark(mark_of[r]);
     let good = modules(first, n, next_of);
     out::line_end();
     good
@@ -108,6 +116,7 @@ pub fn chunks(
     name_of: &[u32; 128],
     size_of: &[f64; 128],
     bits_of: &[u64; 512],
+    mark_of: &[u8; 128],
 ) -> bool
     requires { ⌜ (count ≤ 128) × (n ≤ 128) ⌝ }
 {
@@ -124,6 +133,7 @@ pub fn chunks(
             name_of,
             size_of,
             bits_of,
+            mark_of,
         ) {
             good = false;
         }

@@ -16,6 +16,12 @@ fn numbers(tag: &[u8], what: &[u8], area: &[u32], from: usize) {
     }
 }
 
+fn bytes(tag: &[u8], what: &[u8], area: &[u8], from: usize) {
+    if !areas::bytes_kept(area, from) {
+        warn(tag, what);
+    }
+}
+
 fn words(tag: &[u8], what: &[u8], area: &[u64], from: usize) {
     if !areas::words_kept(area, from) {
         warn(tag, what);
@@ -37,6 +43,7 @@ pub fn records(
     name_of: &[u32; 128],
     size_of: &[f64; 128],
     bits_of: &[u64; 512],
+    mark_of: &[u8; 128],
 )
     requires { ⌜ from ≤ 128 ⌝ }
 {
@@ -45,6 +52,7 @@ pub fn records(
     numbers(tag, b"name_of was written", name_of, from);
     sizes(tag, b"size_of was written", size_of, from);
     words(tag, b"bits_of was written", bits_of, 4 * from);
+    bytes(tag, b"mark_of was written", mark_of, from);
 }
 
 // Areas of modules from a module on.

@@ -40,6 +40,7 @@ fn convert_set(
     name_of: &mut [u32],
     size_of: &mut [f64],
     bits_of: &mut [u64],
+    mark_of: &mut [u8],
 ) -> usize
     requires { ⌜ SetOffered (record {
       bytes = now (bytes);
@@ -52,6 +53,7 @@ fn convert_set(
       name-of = now («name_of»);
       size-of = now («size_of»);
       bits-of = now («bits_of»);
+      mark-of = now («mark_of»);
     }) (now set) ⌝ }
     requires { ⌜ (length (now set) ≤ n) × (n ≤ 4096) × (3 * n ≤ length (now scratch)) ⌝ }
     ensures { λ r. ⌜ SetTaken (record {
@@ -66,12 +68,14 @@ fn convert_set(
           name-of = now («name_of» .entry);
           size-of = now («size_of» .entry);
           bits-of = now («bits_of» .entry);
+          mark-of = now («mark_of» .entry);
         }) (record {
           chunk-of = now («chunk_of» .exit);
           group-of = now («group_of» .exit);
           name-of = now («name_of» .exit);
           size-of = now («size_of» .exit);
           bits-of = now («bits_of» .exit);
+          mark-of = now («mark_of» .exit);
         }) ⌝ }
     ensures { λ _. ⌜ length (now (scratch .exit)) ≡ length (now (scratch .entry)) ⌝ }
 {
@@ -95,6 +99,7 @@ fn convert_set(
             name_of,
             size_of,
             bits_of,
+            mark_of,
         );
     }
     let maximum = settings.max_size;
@@ -125,6 +130,7 @@ fn convert_set(
         name_of,
         size_of,
         bits_of,
+        mark_of,
     )
 }
 
@@ -158,6 +164,7 @@ pub fn convert_names(
     name_of: &mut [u32],
     size_of: &mut [f64],
     bits_of: &mut [u64],
+    mark_of: &mut [u8],
 ) -> usize
     requires { ⌜ NamesTurning (record {
       bytes = now (bytes);
@@ -176,6 +183,7 @@ pub fn convert_names(
       name-of = now («name_of»);
       size-of = now («size_of»);
       bits-of = now («bits_of»);
+      mark-of = now («mark_of»);
     }) ⌝ }
     requires { ⌜ NamesRoom n (now flags) (now order) (now place) (now marks) (now followed) (now set) (now scratch)
         × Closed (now flags) (now first) (now dependency) (now next) (now closed) (now «chunk_of») ⌝ }
@@ -196,12 +204,14 @@ pub fn convert_names(
       name-of = now («name_of» .entry);
       size-of = now («size_of» .entry);
       bits-of = now («bits_of» .entry);
+      mark-of = now («mark_of» .entry);
     }) (record {
       chunk-of = now («chunk_of» .exit);
       group-of = now («group_of» .exit);
       name-of = now («name_of» .exit);
       size-of = now («size_of» .exit);
       bits-of = now («bits_of» .exit);
+      mark-of = now («mark_of» .exit);
     }) ⌝ }
     ensures { λ _. ⌜ (length (now (marks .exit)) ≡ length (now (marks .entry))) × (length (now (set .exit)) ≡ length (now (set .entry)))
         × (length (now (scratch .exit)) ≡ length (now (scratch .entry))) × (now (followed .exit) ≡ unfollowed)
@@ -249,6 +259,7 @@ pub fn convert_names(
                 name_of,
                 size_of,
                 bits_of,
+                mark_of,
             );
         close_set(closing, &set[..count], chunk_of, closed);
         from = to;

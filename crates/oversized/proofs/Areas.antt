@@ -1,4 +1,4 @@
--- The turns of the loop that cuts, where one pair of areas holds the finished pieces at its front and the stack at its back.
+-- The turns of the loop that cuts, where one pair of areas holds the finished pieces at its front and the stack at its back; marks have an area of their own.
 use Prim.Native.Nat.{ℕ, _+_, _-_, _*_, _≤_, _<_}
 use mathlib.Core.List.{List}
 use mathlib.Core.Path.{_≡_, refl, sym, ap, ap₂, _∙_, subst}
@@ -7,10 +7,11 @@ use lib.Ieee.{Float, nan}
 use lib.ListN.{length, getD, set, take, drop, length-set}
 use lib.Seq.{getD-set-same}
 use Rattle.whole.specs.Double.{sumF64}
-use Rattle.cut.specs.Cut.{Chosen, none, cut}
+use Rattle.cut.specs.Cut.{Chosen, cut}
 use Rattle.cut.specs.Order.{sizesIn, idsIn}
 use Rattle.cut.specs.Tables.{Tabled}
-use Rattle.settling.specs.Pieces.{piecesOf}
+use Rattle.cut.proofs.Answer.{NoCut}
+use Rattle.settling.specs.Pieces.{piecesOf, markBy}
 use Rattle.settling.proofs.RangeStack.{topOf}
 use Rattle.oversized.specs.Neighbours.{Neighbours}
 use Rattle.oversized.specs.Cutting.{cuttingOf, cutWithin, Cutted}
@@ -22,26 +23,27 @@ use Rattle.oversized.proofs.Turn.{turn-middle, turn-space, turn-cut}
 
 -- another way to write the stack
 turn-as : {bytes offsets sizes : List ℕ} {minimum maximum : Float} {l : List ℕ} {depth depth′ end count : ℕ} {starts : List ℕ} {pieces : List Float}
-    {pending pending′ : List ℕ} {totals totals′ : List Float} → pending ≡ pending′ → totals ≡ totals′ → depth ≡ depth′
-    → Turn bytes offsets sizes minimum maximum l pending totals depth end count starts pieces
-    → Turn bytes offsets sizes minimum maximum l pending′ totals′ depth′ end count starts pieces
-turn-as {bytes} {offsets} {sizes} {minimum} {maximum} {l} {depth} {depth′} {end} {count} {starts} {pieces} {pending} {pending′} {totals} {totals′} p q r t =
-    subst (λ (k : ℕ). Turn bytes offsets sizes minimum maximum l pending′ totals′ k end count starts pieces) r
-    (subst (λ (x : List Float). Turn bytes offsets sizes minimum maximum l pending′ x depth end count starts pieces) q
-    (subst (λ (x : List ℕ). Turn bytes offsets sizes minimum maximum l x totals depth end count starts pieces) p t))
+    {marks : List ℕ} {pending pending′ : List ℕ} {totals totals′ : List Float} → pending ≡ pending′ → totals ≡ totals′ → depth ≡ depth′
+    → Turn bytes offsets sizes minimum maximum l pending totals depth end count starts pieces marks
+    → Turn bytes offsets sizes minimum maximum l pending′ totals′ depth′ end count starts pieces marks
+turn-as {bytes} {offsets} {sizes} {minimum} {maximum} {l} {depth} {depth′} {end} {count} {starts} {pieces} {marks} {pending} {pending′} {totals} {totals′} p q r t =
+    subst (λ (k : ℕ). Turn bytes offsets sizes minimum maximum l pending′ totals′ k end count starts pieces marks) r
+    (subst (λ (x : List Float). Turn bytes offsets sizes minimum maximum l pending′ x depth end count starts pieces marks) q
+    (subst (λ (x : List ℕ). Turn bytes offsets sizes minimum maximum l x totals depth end count starts pieces marks) p t))
 
 module _ {similar : List ℕ} {sums : List Float} {total : Float} (m : Neighbours similar sums total) (minimum maximum : Float) where
   abbrev n : ℕ
   n = length similar
 
   -- the stack holds as many parts as there are entries from `top` on
-  abbrev pub Turning : List ℕ → List Float → ℕ → ℕ → ℕ → Type 0
-  Turning starts pieces top end count =
-      Turn (m .bytes) (m .offsets) (m .sizes) minimum maximum (m .order) (backwards 0 n starts) (backwards nan n pieces) (n - top) end count starts pieces
+  abbrev pub Turning : List ℕ → List Float → List ℕ → ℕ → ℕ → ℕ → Type 0
+  Turning starts pieces marks top end count =
+      Turn (m .bytes) (m .offsets) (m .sizes) minimum maximum (m .order) (backwards 0 n starts) (backwards nan n pieces) (n - top) end count
+      starts pieces marks
 
-  pub area-start : (starts : List ℕ) (pieces : List Float) → 1 ≤ n → n ≤ length starts → n ≤ length pieces
-      → Turning (set starts (n - 1) 0) (set pieces (n - 1) total) (n - 1) n 0
-  area-start starts pieces some r q =
+  pub area-start : (starts : List ℕ) (pieces : List Float) (marks : List ℕ) → 1 ≤ n → n ≤ length starts → n ≤ length pieces → n ≤ length marks
+      → Turning (set starts (n - 1) 0) (set pieces (n - 1) total) marks (n - 1) n 0
+  area-start starts pieces marks some r q k =
       let s : List ℕ = set starts (n - 1) 0 in
       let p : List Float = set pieces (n - 1) total in
       let all = m .compared .as-many in
@@ -50,16 +52,17 @@ module _ {similar : List ℕ} {sums : List Float} {total : Float} (m : Neighbour
       at-backwards 0 n s 0 some ∙ ap (λ (k : ℕ). getD s k 0) back ∙ getD-set-same starts (n - 1) 0 0 (omega arith) in
       let size : getD (backwards nan n p) 0 nan ≡ total =
       at-backwards nan n p 0 some ∙ ap (λ (k : ℕ). getD p k nan) back ∙ getD-set-same pieces (n - 1) total nan (omega arith) in
-      let t : Turn (m .bytes) (m .offsets) (m .sizes) minimum maximum (m .order) (backwards 0 n s) (backwards nan n p) 1 (length (m .order)) 0 s p =
+      let t : Turn (m .bytes) (m .offsets) (m .sizes) minimum maximum (m .order) (backwards 0 n s) (backwards nan n p) 1 (length (m .order)) 0 s p marks =
       turn-start (omega arith) (omega (arith, length-backwards 0 n s)) (omega (arith, length-backwards nan n p))
-      (omega (arith, length-set starts (n - 1) 0)) (omega (arith, length-set pieces (n - 1) total)) first (size ∙ m .whole) in
+      (omega (arith, length-set starts (n - 1) 0)) (omega (arith, length-set pieces (n - 1) total)) (omega arith) first (size ∙ m .whole) in
       let one : 1 ≡ n - (n - 1) = omega arith in
       turn-as refl refl one
-      (subst (λ (k : ℕ). Turn (m .bytes) (m .offsets) (m .sizes) minimum maximum (m .order) (backwards 0 n s) (backwards nan n p) 1 k 0 s p) (sym all) t)
+      (subst (λ (k : ℕ). Turn (m .bytes) (m .offsets) (m .sizes) minimum maximum (m .order) (backwards 0 n s) (backwards nan n p) 1 k 0 s p marks) (sym all) t)
 
-  module _ {starts : List ℕ} {pieces : List Float} {top end count : ℕ} (t : Turning starts pieces top end count) where
+  module _ {starts : List ℕ} {pieces : List Float} {marks : List ℕ} {top end count : ℕ} (t : Turning starts pieces marks top end count) where
     pub area-done : n ≤ top
-        → Cutted (piecesOf (cuttingOf (m .bytes) (m .offsets) (m .sizes) minimum maximum) (m .order)) (m .order) (m .sizes) count starts pieces
+        → Cutted (cuttingOf (m .bytes) (m .offsets) (m .sizes) minimum maximum)
+        (piecesOf (cuttingOf (m .bytes) (m .offsets) (m .sizes) minimum maximum) (m .order)) (m .order) (m .sizes) count starts pieces marks
     area-done h = turn-end t (omega arith)
 
     module _ (inside : top < n) where
@@ -96,6 +99,9 @@ module _ {similar : List ℕ} {sums : List Float} {total : Float} (m : Neighbour
       pub sizes-room : n ≤ length pieces
       sizes-room = omega (arith, t .sizes-room, m .compared .as-many)
 
+      pub marks-room : n ≤ length marks
+      marks-room = omega (arith, t .marks-room, m .compared .as-many)
+
       -- the finished pieces leave room for the stack
       pub area-room : count + end ≤ n
       area-room = omega (arith, t .stored .room, m .compared .as-many)
@@ -119,13 +125,15 @@ module _ {similar : List ℕ} {sums : List Float} {total : Float} (m : Neighbour
 
       -- ---- no cut
 
-      pub area-taken : Answered t some none → Turning (set starts count start) (set pieces count size) (top + 1) start (count + 1)
-      area-taken q =
+      pub area-taken : (answer : Chosen) → NoCut answer → Answered t some answer
+          → Turning (set starts count start) (set pieces count size) (set marks count (markBy maximum size answer)) (top + 1) start (count + 1)
+      area-taken answer none q =
           let inside′ : count < n = omega (arith, area-room, area-below) in
           let fewer : n - top - 1 ≡ n - (top + 1) = omega arith in
           let above : n - top - 1 ≤ n - 1 - count = omega (arith, area-room, area-deep) in
           let taken : Turn (m .bytes) (m .offsets) (m .sizes) minimum maximum (m .order) (backwards 0 n starts) (backwards nan n pieces)
-          (n - top - 1) start (count + 1) (set starts count start) (set pieces count size) = rw (area-top, area-size) at (turn-taken t some q) in
+          (n - top - 1) start (count + 1) (set starts count start) (set pieces count size) (set marks count (markBy maximum size answer)) =
+          rw (area-top, area-size) at (turn-taken t some answer none q) in
           turn-as
           (sym (set-backwards 0 n starts count start inside′ starts-room))
           (sym (set-backwards nan n pieces count size inside′ sizes-room))
@@ -162,21 +170,24 @@ module _ {similar : List ℕ} {sums : List Float} {total : Float} (m : Neighbour
             ∙ ap₂ (λ (l : List Float) (k : ℕ). set l k right)
             (set-backwards nan n pieces top left inside sizes-room ∙ ap (λ (k : ℕ). set (backwards nan n pieces) k left) below) at)
 
-        pub area-cut : Turning (set starts (top - 1) (start + i)) (set (set pieces top left) (top - 1) right) (top - 1) end count
+        pub area-cut : Turning (set starts (top - 1) (start + i)) (set (set pieces top left) (top - 1) right) marks (top - 1) end count
         area-cut =
             let more : n - top + 1 ≡ n - (top - 1) = omega (arith, area-space, area-within) in
             let v : Turn (m .bytes) (m .offsets) (m .sizes) minimum maximum (m .order) (set (backwards 0 n starts) (n - top) (start + i))
-            (set (set (backwards nan n pieces) (n - top - 1) left) (n - top) right) (n - top + 1) end count starts pieces =
+            (set (set (backwards nan n pieces) (n - top - 1) left) (n - top) right) (n - top + 1) end count starts pieces marks =
             rw area-top at (turn-cut t some i left right q) in
             turn-as stack-starts stack-sizes more
             (record {
               found = v .found;
               looking = v .looking;
-              stored = stored-past (m .sizes) (length (m .order)) (v .stored) (top - 1) (start + i) free top (top - 1) left right (omega (arith, free)) free;
+              stored =
+                  stored-past (cuttingOf (m .bytes) (m .offsets) (m .sizes) minimum maximum) (m .sizes) (length (m .order)) (v .stored)
+                  (top - 1) (start + i) free top (top - 1) left right (omega (arith, free)) free;
               totalled = v .totalled;
               totals-length = v .totals-length;
               starts-room = rw length-set (v .starts-room);
               sizes-room = simp length-set (v .sizes-room);
+              marks-room = v .marks-room;
             })
 
         pub area-cut-less : 2 * end - (n - (top - 1)) < 2 * end - (n - top)

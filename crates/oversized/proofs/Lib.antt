@@ -4,5 +4,6 @@ pub mod Stored
 pub mod Totals
 pub mod PartTabled
 pub mod Backwards
+pub mod Told
 pub mod Turn
 pub mod Areas

@@ -29,9 +29,10 @@ pub record Neighbours (similar : List ℕ) (sums : List Float) (total : Float) :
   pub whole : total ≡ sumF64 (sizesIn sizes order)
 
 -- the tables are of some modules, at most 4,096, and there is room for as many pieces
-pub record Cuttables (similar : List ℕ) (sums : List Float) (total : Float) (starts : List ℕ) (sizes : List Float) : Type 0 where
+pub record Cuttables (similar : List ℕ) (sums : List Float) (total : Float) (starts : List ℕ) (sizes : List Float) (marks : List ℕ) : Type 0 where
   pub modules : Neighbours similar sums total
   pub few : length similar ≤ 4096
   pub some : 1 ≤ length similar
   pub starts-room : length similar ≤ length starts
   pub sizes-room : length similar ≤ length sizes
+  pub marks-room : length similar ≤ length marks

@@ -1,4 +1,4 @@
--- What is stored for a cut and for a piece that stays whole: what there has to be room for, and both areas afterwards. The pieces that are still to
+-- What is stored for a cut and for a piece that stays whole: what there has to be room for, and the areas afterwards. The pieces that are still to
 -- be looked at stand at the end of the areas, the next one first.
 use Prim.Native.Nat.{ℕ, _+_, _-_, _^_, _≤_, _<_}
 use mathlib.Core.List.{List}
@@ -20,12 +20,15 @@ pub record Pushed (starts : List ℕ) (sizes : List Float) (top start : ℕ) (po
   pub sized : sizes′ ≡ set (set sizes top (point .«left_size»)) (top - 1) (point .«right_size»)
 
 -- there is room for one more piece, whose start fits its table
-pub record Endable (starts : List ℕ) (sizes : List Float) (count start : ℕ) : Type 0 where
+pub record Endable (starts : List ℕ) (sizes : List Float) (marks : List ℕ) (count start : ℕ) : Type 0 where
   pub starts-room : count < length starts
   pub sizes-room : count < length sizes
+  pub marks-room : count < length marks
   pub fits : start < 2 ^ 32
 
--- the piece's start and size stand next in the two areas
-pub record Ended (starts : List ℕ) (sizes : List Float) (count start : ℕ) (size : Float) (starts′ : List ℕ) (sizes′ : List Float) : Type 0 where
+-- the piece's start, size and mark stand next in the three areas
+pub record Ended (starts : List ℕ) (sizes : List Float) (marks : List ℕ) (count start : ℕ) (size : Float) (mark : ℕ)
+    (starts′ : List ℕ) (sizes′ : List Float) (marks′ : List ℕ) : Type 0 where
   pub begins : starts′ ≡ set starts count start
   pub sized : sizes′ ≡ set sizes count size
+  pub marked : marks′ ≡ set marks count mark

@@ -1,5 +1,6 @@
 // The pieces of modules in id order. One pair of areas holds where they begin and their sizes: the finished ones from the front, the rightmost
-// first, and from the back those that are still to be looked at, of which the next one ends where the finished ones begin.
+// first, and from the back those that are still to be looked at, of which the next one ends where the finished ones begin. Finished ones have a mark.
+use crate::marks::mark_by;
 use crate::neighbours::fill_similar;
 use crate::neighbours::fill_sums;
 use cut::Cut;
@@ -23,7 +24,7 @@ fn cut_within(similar: &[u32], sums: &[f64], total: f64, minimum: f64, maximum: 
     if maximum < total {
         return pick_by_similarity(similar, sums, total, minimum, maximum);
     }
-    Cut::None
+    Cut::NoneAllowed
 }
 
 // The two pieces of a cut take the place of the one that was cut: the right one is looked at next.
@@ -37,12 +38,22 @@ fn push_pieces(starts: &mut [u32], sizes: &mut [f64], top: usize, start: usize, 
 }
 
 // A piece that stays whole.
-fn end_piece(starts: &mut [u32], sizes: &mut [f64], count: usize, start: usize, size: f64)
-    requires { ⌜ Endable (now starts) (now sizes) count start ⌝ }
-    ensures { λ _. ⌜ Ended (now (starts .entry)) (now (sizes .entry)) count start size (now (starts .exit)) (now (sizes .exit)) ⌝ }
+fn end_piece(
+    starts: &mut [u32],
+    sizes: &mut [f64],
+    marks: &mut [u8],
+    count: usize,
+    start: usize,
+    size: f64,
+    mark: u8,
+)
+    requires { ⌜ Endable (now starts) (now sizes) (now marks) count start ⌝ }
+    ensures { λ _. ⌜ Ended (now (starts .entry)) (now (sizes .entry)) (now (marks .entry)) count start size mark
+        (now (starts .exit)) (now (sizes .exit)) (now (marks .exit)) ⌝ }
 {
     starts[count] = start as u32;
     sizes[count] = size;
+    marks[count] = mark;
 }
 
 // Cuts modules that two tables are of into pieces, the rightmost first. Answers how many there are.
@@ -54,11 +65,13 @@ fn cut_pieces(
     maximum: f64,
     starts: &mut [u32],
     piece_sizes: &mut [f64],
+    marks: &mut [u8],
 ) -> usize
-    requires { ⌜ Cuttables (now similar) (now sums) total (now starts) (now «piece_sizes») ⌝ }
+    requires { ⌜ Cuttables (now similar) (now sums) total (now starts) (now «piece_sizes») (now marks) ⌝ }
     ensures { λ r. ⌜ ((m : Neighbours (now (similar .entry)) (now (sums .entry)) total) → Cutted
+        (cuttingOf (m .bytes) (m .offsets) (m .sizes) minimum maximum)
         (piecesOf (cuttingOf (m .bytes) (m .offsets) (m .sizes) minimum maximum) (m .order)) (m .order) (m .sizes) r
-        (now (starts .exit)) (now («piece_sizes» .exit))) ⌝ }
+        (now (starts .exit)) (now («piece_sizes» .exit)) (now (marks .exit))) ⌝ }
 {
     let n = similar.len();
     let mut top = n - 1;
@@ -77,7 +90,8 @@ fn cut_pieces(
             maximum,
         );
         let Cut::At(point) = answer else {
-            end_piece(starts, piece_sizes, count, start, size);
+            let mark = mark_by(maximum, size, answer);
+            end_piece(starts, piece_sizes, marks, count, start, size, mark);
             count = count + 1;
             top = top + 1;
             end = start;
@@ -102,13 +116,24 @@ pub fn split_oversized(
     sums: &mut [f64],
     starts: &mut [u32],
     piece_sizes: &mut [f64],
+    marks: &mut [u8],
 ) -> usize
     requires { ⌜ Pending (now bytes) (now offsets) (now sizes) (now order) total ⌝ }
-    requires { ⌜ Lent (now order) (now similar) (now sums) (now starts) (now «piece_sizes») ⌝ }
-    ensures { λ r. ⌜ Cutted (piecesOf (cuttingOf (now (bytes .entry)) (now (offsets .entry)) (now (sizes .entry)) minimum maximum)
-        (now (order .entry))) (now (order .entry)) (now (sizes .entry)) r (now (starts .exit)) (now («piece_sizes» .exit)) ⌝ }
+    requires { ⌜ Lent (now order) (now similar) (now sums) (now starts) (now «piece_sizes») (now marks) ⌝ }
+    ensures { λ r. ⌜ Cutted (cuttingOf (now (bytes .entry)) (now (offsets .entry)) (now (sizes .entry)) minimum maximum)
+        (piecesOf (cuttingOf (now (bytes .entry)) (now (offsets .entry)) (now (sizes .entry)) minimum maximum) (now (order .entry)))
+        (now (order .entry)) (now (sizes .entry)) r (now (starts .exit)) (now («piece_sizes» .exit)) (now (marks .exit)) ⌝ }
 {
     fill_similar(bytes, offsets, order, similar);
     fill_sums(sizes, order, sums);
-    cut_pieces(similar, sums, total, minimum, maximum, starts, piece_sizes)
+    cut_pieces(
+        similar,
+        sums,
+        total,
+        minimum,
+        maximum,
+        starts,
+        piece_sizes,
+        marks,
+    )
 }

@@ -50,10 +50,12 @@ starts-fall end (p ∷ ps) (suc i) = starts-fall (end - length p) ps i
 
 -- ---- chunks
 
-pub pieces-emitted : (sizes : List ℕ) (head : Head) (ps : List (List ℕ)) → emissions head ps (sizesOf sizes ps) ≡ map (chunkOf sizes head) ps
+pub pieces-emitted : (sizes : List ℕ) (head : Head) (mark : List ℕ → ℕ) (ps : List (List ℕ))
+    → emissions head ps (sizesOf sizes ps) (map mark ps) ≡ map (λ p. chunkOf sizes head (mark p) p) ps
 unfolding emissions sizesOf
-pieces-emitted sizes head [] = refl
-pieces-emitted sizes head (p ∷ ps) = ap (λ (es : List Emission). chunkOf sizes head p ∷ es) (pieces-emitted sizes head ps)
+pieces-emitted sizes head mark [] = refl
+pieces-emitted sizes head mark (p ∷ ps) =
+    ap (λ (es : List Emission). chunkOf sizes head (mark p) p ∷ es) (pieces-emitted sizes head mark ps)
 
 pub sizes-length : (sizes : List ℕ) (ps : List (List ℕ)) → length (sizesOf sizes ps) ≡ length ps
 unfolding sizesOf

@@ -39,6 +39,7 @@ pub fn split(
     name_of: &mut [u32],
     size_of: &mut [f64],
     bits_of: &mut [u64],
+    mark_of: &mut [u8],
     scratch: &mut [u32],
 ) -> ChunksAnswer {
     chunks::split(
@@ -77,6 +78,7 @@ pub fn split(
         name_of,
         size_of,
         bits_of,
+        mark_of,
         scratch,
     )
 }

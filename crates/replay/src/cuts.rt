@@ -1,6 +1,7 @@
 // cut TAG N MINIMUM MAXIMUM, then N times: ID SIZE
 use cut::Cut;
 use cut::CutAnswer;
+use cut::CutPoint;
 use index::ModuleIdx;
 use textform::doubles;
 use textform::numbers;
@@ -140,10 +141,14 @@ fn run(
 }
 
 fn show(chosen: Cut) {
-    let Cut::At(point) = chosen else {
-        out::text(b" none\n");
-        return;
-    };
+    match chosen {
+        Cut::FewerThanTwo => out::text(b" none fewer-than-two\n"),
+        Cut::NoneAllowed => out::text(b" none not-allowed\n"),
+        Cut::At(point) => show_point(point),
+    }
+}
+
+fn show_point(point: CutPoint) {
     out::blank();
     out::number(point.index as u64);
     out::double(point.left_size);

@@ -90,6 +90,7 @@ module _ (b : Given) (t : RunTables) (on-entry at : ℕ) (a : Areas) (fits : Pla
             name-of = now .name-of;
             size-of = now .size-of;
             bits-of = now .bits-of;
+            mark-of = now .mark-of;
           };
       scratch = scratch;
     })

@@ -75,6 +75,7 @@ pub fresh-areas : (b : Given) (n : ℕ) (w : Work) (part : List ℕ) → n ≡ b
       name-of = w .name-of;
       size-of = w .size-of;
       bits-of = w .bits-of;
+      mark-of = w .mark-of;
     })
 fresh-areas b n w part e h z =
     record {
@@ -83,6 +84,7 @@ fresh-areas b n w part e h z =
       names = refl;
       sizes = refl;
       bits = refl;
+      marks = refl;
     }
 
 module _ {t : RunTables} {on-entry at : ℕ} {w : Work} {scratch : List ℕ} (p : Making t on-entry at w scratch) where

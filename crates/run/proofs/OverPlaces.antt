@@ -53,6 +53,7 @@ workOf a =
       name-of = a .records .name-of;
       size-of = a .records .size-of;
       bits-of = a .records .bits-of;
+      mark-of = a .records .mark-of;
     }
 
 module _ (b : Given) (t : RunTables) (on-entry : ℕ) (fits : RunFits b t on-entry) where
@@ -123,4 +124,5 @@ run-room b t on-entry at a fits room =
       names = omega (arith, room .names);
       sizes = omega (arith, room .sizes);
       words = omega (arith, room .words);
+      marks = omega (arith, room .marks);
     }

@@ -16,6 +16,7 @@ pub record RunRoom (n at : ℕ) (a : Areas) : Type 0 where
   pub names : at + n ≤ length (a .records .name-of)
   pub sizes : at + n ≤ length (a .records .size-of)
   pub words : 4 * at + 4 * n ≤ length (a .records .bits-of)
+  pub marks : at + n ≤ length (a .records .mark-of)
   pub work : 32 * n ≤ length (a .scratch)
 
 -- there is a build that the tables are of

@@ -37,6 +37,7 @@ fn make_chunks(
     name_of: &mut [u32],
     size_of: &mut [f64],
     bits_of: &mut [u64],
+    mark_of: &mut [u8],
 ) -> usize
     requires { ⌜ Making (record {
       settings = settings;
@@ -53,6 +54,7 @@ fn make_chunks(
           name-of = now «name_of»;
           size-of = now «size_of»;
           bits-of = now «bits_of»;
+          mark-of = now «mark_of»;
         }) (now scratch) ⌝ }
     ensures { λ r. ⌜ ChunksMade (record {
       settings = settings;
@@ -75,6 +77,7 @@ fn make_chunks(
           name-of = now («name_of» .entry);
           size-of = now («size_of» .entry);
           bits-of = now («bits_of» .entry);
+          mark-of = now («mark_of» .entry);
         })
         (record {
           chunk-of = now («chunk_of» .exit);
@@ -82,6 +85,7 @@ fn make_chunks(
           name-of = now («name_of» .exit);
           size-of = now («size_of» .exit);
           bits-of = now («bits_of» .exit);
+          mark-of = now («mark_of» .exit);
         }) ⌝ }
 {
     let mut turns = [0u32; 64];
@@ -112,6 +116,7 @@ fn make_chunks(
         name_of,
         size_of,
         bits_of,
+        mark_of,
     )
 }
 
@@ -172,6 +177,7 @@ pub fn run(
     name_of: &mut [u32],
     size_of: &mut [f64],
     bits_of: &mut [u64],
+    mark_of: &mut [u8],
     scratch: &mut [u32],
 ) -> usize
     requires { ⌜ Running (record {
@@ -191,6 +197,7 @@ pub fn run(
             name-of = now «name_of»;
             size-of = now «size_of»;
             bits-of = now «bits_of»;
+            mark-of = now «mark_of»;
           };
           scratch = now scratch;
         }) ⌝ }
@@ -217,6 +224,7 @@ pub fn run(
             name-of = now («name_of» .entry);
             size-of = now («size_of» .entry);
             bits-of = now («bits_of» .entry);
+            mark-of = now («mark_of» .entry);
           };
           scratch = now (scratch .entry);
         })
@@ -228,6 +236,7 @@ pub fn run(
             name-of = now («name_of» .exit);
             size-of = now («size_of» .exit);
             bits-of = now («bits_of» .exit);
+            mark-of = now («mark_of» .exit);
           };
           scratch = now (scratch .exit);
         }) ⌝ }
@@ -259,6 +268,7 @@ pub fn run(
         name_of,
         size_of,
         bits_of,
+        mark_of,
     );
     finish(
         &order[..count],

@@ -15,6 +15,7 @@ use Rattle.grouping.specs.Given.{Given}
 use Rattle.grouping.specs.Tree.{Tree, placesOf, treeOf}
 use Rattle.grouping.specs.Item.{Item, withPlaces}
 use Rattle.grouping.specs.Sizes.{itemSize}
+use Rattle.grouping.specs.Mark.{markOf}
 use Rattle.grouping.specs.ChunkList.{Chunk, unionAt, bitsOr, chunkFrom}
 use Rattle.grouping.specs.Written.{modulesFrom}
 use Rattle.settling.specs.Modules.{Passed, moduleAt, modulesAt}
@@ -78,9 +79,10 @@ module _ (b : Given) (passed : Passed b) where
   -- ---- the chunk
 
   pub matches : (i : Item) (head : Head) → HeadOf i head → (piece side : List ℕ) → Within b side → SamePlaces i (treeOf b) piece side
-      → Matches b (chunkOf (b .shared .sizes) head (modulesAt b side)) (chunkFrom (treeOf b) (withPlaces piece i))
+      → (mark : ℕ) → mark ≡ markOf (i .settings) (treeOf b) piece
+      → Matches b (chunkOf (b .shared .sizes) head mark (modulesAt b side)) (chunkFrom (treeOf b) (withPlaces piece i))
   unfolding chunkFrom
-  matches i head h piece side within s =
+  matches i head h piece side within s mark why =
       record {
         group = h .group;
         name = h .name;
@@ -88,6 +90,7 @@ module _ (b : Given) (passed : Passed b) where
         bits =
             same-bits head (i .bits) (unionOfModules (b .shared .bits) (modulesAt b side)) (unionAt (treeOf b) piece) (h .bits)
             (union-of-modules b side within ∙ sym (s .union));
+        mark = why;
         four-words = four-words head (i .bits) (unionAt (treeOf b) piece) (h .bits) (union-words (treeOf b) piece);
         there = module-there piece side within (s .there);
         back = module-back piece side (s .back);

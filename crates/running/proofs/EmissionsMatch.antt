@@ -1,7 +1,7 @@
 -- The chunks that an item's modules are emitted as match the chunks that its places end as: none, one of all, or one for each piece.
 use Prim.Native.Nat.{ℕ, _≤_}
 use mathlib.Core.Bool.{Bool, true, false}
-use mathlib.Core.List.{List, [], _∷_, map, map-map, Permᴰ·symm}
+use mathlib.Core.List.{List, [], _∷_, map, map-map, List·Memᴰ, Permᴰ·symm}
 use mathlib.Core.Path.{_≡_, refl, sym, ap, ap₂, _∙_, subst}
 use native.Mathlib.Omega.{arith}
 use lib.Ieee.{Float, lt}
@@ -17,17 +17,19 @@ use Rattle.grouping.specs.Tree.{Tree, placesOf, treeOf}
 use Rattle.grouping.specs.Item.{Item, withPlaces}
 use Rattle.grouping.specs.Sizes.{itemSize}
 use Rattle.grouping.specs.Fate.{inIdOrder, among}
+use Rattle.grouping.specs.Mark.{markOf}
 use Rattle.grouping.specs.ChunkList.{Chunk, chunkFrom}
 use Rattle.grouping_laws.proofs.SetPlaces.{Placed}
 use Rattle.settling.specs.Ends.{endsOf}
-use Rattle.settling.specs.Pieces.{piecesOf}
+use Rattle.settling.specs.Pieces.{Cutting, piecesOf, markIn}
 use Rattle.settling.specs.Modules.{moduleAt, modulesAt}
 use Rattle.settling.specs.Settled.{chunksFrom}
 use Rattle.settling.proofs.Parts.{PartOf, part-mem}
 use Rattle.settling.proofs.SideOrder.{ordered-mem, side-perm}
 use Rattle.settling.proofs.SideSize.{side-size}
 use Rattle.settling.proofs.SideUnion.{side-union}
-use Rattle.settling.proofs.PieceMap.{pieces-map}
+use Rattle.settling.proofs.PieceMap.{Written, pieces-map}
+use Rattle.settling.proofs.PieceMarks.{unlimited-mark, small-mark, piece-mark, mark-map}
 use Rattle.settling.proofs.PieceParts.{pieces-parts}
 use Rattle.settling.proofs.Ends.{ends-empty, ends-dropped, ends-unlimited, ends-small}
 use Rattle.settling.proofs.EndsPieces.{cuttingOf, Standing, ends-pieces}
@@ -75,11 +77,11 @@ module _ (b : build.Given) (t : Tables) (bits : List ℕ) (fits : ItemFits b t b
   total : sumF64 (sizesIn (b .shared .sizes) (modulesAt b places)) ≡ itemSize r tree places
   total = size-of-modules b r places (placed .below)
 
-  as-whole : endsOf r tree places ≡ places ∷ [] → AllMatch b (chunkOf (b .shared .sizes) head (modulesAt b places) ∷ []) ended
+  as-whole : endsOf r tree places ≡ places ∷ [] → markOf r tree places ≡ 0 → AllMatch b (chunkOf (b .shared .sizes) head 0 (modulesAt b places) ∷ []) ended
   unfolding chunksFrom
-  as-whole e =
-      subst (λ (ends : List (List ℕ)). AllMatch b (chunkOf (b .shared .sizes) head (modulesAt b places) ∷ []) (chunksFrom tree i ends)) (sym e)
-      (more (matches b (fits .passed) i head h places places (placed .below) (same-self i tree places)) none)
+  as-whole e within =
+      subst (λ (ends : List (List ℕ)). AllMatch b (chunkOf (b .shared .sizes) head 0 (modulesAt b places) ∷ []) (chunksFrom tree i ends)) (sym e)
+      (more (matches b (fits .passed) i head h places places (placed .below) (same-self i tree places) 0 (sym within)) none)
 
   -- ---- pieces
 
@@ -98,27 +100,33 @@ module _ (b : build.Given) (t : Tables) (bits : List ℕ) (fits : ItemFits b t b
     abbrev pieces : List (List ℕ)
     pieces = piecesOf (cuttingOf r tree maximum) (inIdOrder tree places)
 
+    abbrev cutting : Cutting
+    cutting = modules.cuttingOf (b .shared .bytes) (b .shared .offsets) (b .shared .sizes) (r .«min_size») maximum
+
     abbrev pieceEmitted : List ℕ → Emission
-    pieceEmitted side = chunkOf (b .shared .sizes) head (modulesAt b side)
+    pieceEmitted side = chunkOf (b .shared .sizes) head (markIn cutting (modulesAt b side)) (modulesAt b side)
 
     abbrev pieceChunk : List ℕ → Chunk
     pieceChunk side = chunkFrom tree (withPlaces (among side places) i)
 
+    -- places in id order, written as modules
+    written : (l : List ℕ) → ((p : ℕ) → List·Memᴰ p l → List·Memᴰ p (inIdOrder tree places)) → Written (moduleAt b) (cuttingOf r tree maximum) cutting l
+    written l there =
+        record {
+          ids = λ p m. id-at b p (placed .below p (ordered-mem tree places p (there p m)));
+          sizes = λ p m. size-at b p (placed .below p (ordered-mem tree places p (there p m)));
+          minimum = refl;
+          maximum = refl;
+        }
+
     pieces-emitted : inPieces tables head (r .«min_size») maximum (modulesAt b places) ≡ map pieceEmitted pieces
     unfolding inPieces
     pieces-emitted =
-        let cutting = modules.cuttingOf (b .shared .bytes) (b .shared .offsets) (b .shared .sizes) (r .«min_size») maximum in
-        ap (λ (l : List ℕ). map (chunkOf (b .shared .sizes) head) (piecesOf cutting l))
+        let emit : List ℕ → Emission = λ l. chunkOf (b .shared .sizes) head (markIn cutting l) l in
+        ap (λ (l : List ℕ). map emit (piecesOf cutting l))
         (by-ranks b (fits .passed) (t .rank) (fits .ranks) places (placed .below))
-        ∙ ap (map (chunkOf (b .shared .sizes) head))
-        (pieces-map (moduleAt b) (cuttingOf r tree maximum) cutting (inIdOrder tree places)
-        (record {
-          ids = λ p m. id-at b p (placed .below p (ordered-mem tree places p m));
-          sizes = λ p m. size-at b p (placed .below p (ordered-mem tree places p m));
-          minimum = refl;
-          maximum = refl;
-        }))
-        ∙ map-map (chunkOf (b .shared .sizes) head) (modulesAt b) pieces
+        ∙ ap (map emit) (pieces-map (moduleAt b) (cuttingOf r tree maximum) cutting (inIdOrder tree places) (written (inIdOrder tree places) (λ p m. m)))
+        ∙ map-map emit (modulesAt b) pieces
 
     pieces-ended : Standing r tree places → r .«max_size» ≡ Given maximum → ended ≡ map pieceChunk pieces
     unfolding chunksFrom
@@ -135,18 +143,21 @@ module _ (b : build.Given) (t : Tables) (bits : List ℕ) (fits : ItemFits b t b
         (λ side m.
         let part = pieces-parts (cuttingOf r tree maximum) (inIdOrder tree places) side m in
         matches b (fits .passed) i head h (among side places) side
-        (λ p k. placed .below p (ordered-mem tree places p (part-mem part p k))) (side-same side part))))
+        (λ p k. placed .below p (ordered-mem tree places p (part-mem part p k))) (side-same side part)
+        (markIn cutting (modulesAt b side))
+        (mark-map (moduleAt b) (cuttingOf r tree maximum) cutting side (written side (part-mem part))
+        ∙ sym (piece-mark r tree maximum limit places (s .exact) (s .ascend) side part)))))
 
     by-size : Standing r tree places → r .«max_size» ≡ Given maximum → (large : Bool) → lt maximum (itemSize r tree places) ≡ large
         → AllMatch b (emittedOver (overIf large maximum) tables head (r .«min_size») (modulesAt b places)) ended
     by-size s limit true e = in-pieces s limit
-    by-size s limit false e = as-whole (ends-small r tree maximum limit places (s .some) (s .reaches) e)
+    by-size s limit false e = as-whole (ends-small r tree maximum limit places (s .some) (s .reaches) e) (small-mark r tree maximum limit places e)
 
   -- ---- the limits
 
   by-maximum : Standing r tree places → (limit : Limit) → r .«max_size» ≡ limit
       → AllMatch b (emittedWithin limit tables head (r .«min_size») (modulesAt b places)) ended
-  by-maximum s Absent e = as-whole (ends-unlimited r tree places (s .some) (s .reaches) e)
+  by-maximum s Absent e = as-whole (ends-unlimited r tree places (s .some) (s .reaches) e) (unlimited-mark r tree places e)
   by-maximum s (Given maximum) e =
       subst (λ (x : Float). AllMatch b (emittedOver (overIf (lt maximum x) maximum) tables head (r .«min_size») (modulesAt b places)) ended) (sym total)
       (by-size maximum s e (lt maximum (itemSize r tree places)) refl)

@@ -79,6 +79,7 @@ module _ (b : Given) (t : Tables) (bits : List ℕ) (fits : ItemFits b t bits) (
         names = omega (arith, left-count, same .name-of, state .room .names);
         sizes = omega (arith, left-count, same .size-of, state .room .sizes);
         words = omega (arith, left-count, same .bits-of, state .room .words);
+        marks = omega (arith, left-count, same .mark-of, state .room .marks);
         numbered = left-entries;
         has-bits = has-bits b t bits fits left (left-placed (length (placesOf b)) chunks placed);
       }

@@ -36,6 +36,7 @@ has-room b start w room count h =
       names = omega (arith, room .names);
       sizes = omega (arith, room .sizes);
       words = omega (arith, room .words);
+      marks = omega (arith, room .marks);
     }
 
 -- ---- the chunks of some items

@@ -29,6 +29,7 @@ pub record Roomy (b : Given) (start : ℕ) (w : Work) : Type 0 where
   pub names : start + b .shared .n ≤ length (w .name-of)
   pub sizes : start + b .shared .n ≤ length (w .size-of)
   pub words : 4 * start + 4 * b .shared .n ≤ length (w .bits-of)
+  pub marks : start + b .shared .n ≤ length (w .mark-of)
 
 pub record State (b : Given) (start : ℕ) (chunks : List Chunk) (before now : Work) : Type 0 where
   pub settling : Settling b chunks

@@ -3,7 +3,7 @@
 use Prim.Native.Nat.{ℕ, zero, suc, _≤_, _<_, _^_}
 use mathlib.Core.Bool.{Bool, true, false, not, false≢true}
 use mathlib.Core.List.{List, [], _∷_, _++_, map, map-append}
-use mathlib.Core.Path.{_≡_, refl, sym, ap, ap₂, _∙_}
+use mathlib.Core.Path.{_≡_, refl, sym, ap, ap₂, _∙_, subst}
 use native.Mathlib.Omega.{arith}
 use lib.Ieee.{Float, nan, inf, fin, isNan, lt, le}
 use lib.ListN.{length, take, drop, length-take, length-drop}
@@ -17,8 +17,8 @@ use Rattle.limit.specs.declared.Limit.the-variants.{Given}
 use Rattle.whole.specs.Double.{toF64, sumF64}
 use Rattle.whole.proofs.AnyDouble.{wholeBelow, whole-below, at-least-not-below}
 use Rattle.whole.proofs.Exact.{sum-exact}
-use Rattle.cut.specs.Cut.{Chosen, none, cut}
-use Rattle.cut.proofs.Answer.{there-is-a-cut}
+use Rattle.cut.specs.Cut.{Chosen, fewerThanTwo, noneAllowed, cut}
+use Rattle.cut.proofs.Answer.{NoCut, there-is-a-cut}
 use Rattle.options.specs.declared.Settings.{Settings}
 use Rattle.grouping.specs.Tree.{Tree, memberAt}
 use Rattle.grouping.specs.Sizes.{sizeIn, sizesAt, itemSize}
@@ -150,7 +150,8 @@ module _ (r : Settings) (tree : Tree) (maximum : Float) (limit : r .«max_size»
 
       by-cut : (x : Chosen) → cutIn c ordered ≡ x → tooLarge c ordered ≡ true → Again
           → endsBy (endsFrom most r tree) (partedBy places ordered x) places ≡ map (λ piece. among piece places) (piecesOf c ordered)
-      by-cut none q e again = whole (pieces-uncut c ordered q)
+      by-cut fewerThanTwo q e again = whole (pieces-uncut c ordered (subst NoCut (sym q) tt))
+      by-cut noneAllowed q e again = whole (pieces-uncut c ordered (subst NoCut (sym q) tt))
       by-cut (cut i left right) q e again =
           let at = cut-inside c ordered i left right q in
           ap₂ (λ (u v : List (List ℕ)). u ++ v)

@@ -17,6 +17,7 @@ pub mod PieceParts
 pub mod PieceMap
 pub mod Ends
 pub mod EndsPieces
+pub mod PieceMarks
 pub mod PieceStack
 pub mod RangeStack
 pub mod RangePieces

@@ -8,8 +8,8 @@ use native.Mathlib.Omega.{arith}
 use lib.Ieee.{Float, lt}
 use lib.ListN.{length, take, drop, length-take, length-drop, length-map}
 use Rattle.whole.specs.Double.{sumF64}
-use Rattle.cut.specs.Cut.{Chosen, none, cut}
-use Rattle.cut.proofs.Answer.{there-is-a-cut}
+use Rattle.cut.specs.Cut.{Chosen, fewerThanTwo, noneAllowed, cut}
+use Rattle.cut.proofs.Answer.{NoCut, there-is-a-cut}
 use Rattle.settling.specs.Pieces.{Cutting, cutIn, piecesBy, piecesIf, piecesFrom, piecesOf}
 
 -- a list is above the maximum
@@ -42,7 +42,8 @@ module _ (c : Cutting) (P : List ℕ → List (List ℕ) → Type 0) (whole : (l
   of-pieces (suc most) l h = go (tooLarge c l) (λ k u. of-pieces most k (omega arith))
     where
       by-cut : (x : Chosen) → cutIn c l ≡ x → ((k : List ℕ) → length k < length l → P k (piecesFrom most c k)) → P l (piecesBy (piecesFrom most c) x l)
-      by-cut none e again = whole l
+      by-cut fewerThanTwo e again = whole l
+      by-cut noneAllowed e again = whole l
       by-cut (cut i left right) e again =
           let at = cut-inside c l i left right e in
           parted l i at (piecesFrom most c (drop i l)) (piecesFrom most c (take i l))
@@ -68,7 +69,8 @@ module _ (c : Cutting) where
     where
       by-cut : (x : Chosen) → cutIn c l ≡ x → ((t : List ℕ) → length t < length l → piecesFrom m c t ≡ piecesFrom n c t)
           → piecesBy (piecesFrom m c) x l ≡ piecesBy (piecesFrom n c) x l
-      by-cut none e again = refl
+      by-cut fewerThanTwo e again = refl
+      by-cut noneAllowed e again = refl
       by-cut (cut i left right) e again =
           let at = cut-inside c l i left right e in
           ap₂ (λ (u v : List (List ℕ)). u ++ v) (again (drop i l) (drop-shorter i l at)) (again (take i l) (take-shorter i l at))
@@ -88,12 +90,17 @@ module _ (c : Cutting) where
   unfolding piecesOf piecesFrom
   pieces-small l e = rw e
 
-  pub pieces-uncut : (l : List ℕ) → cutIn c l ≡ none → piecesOf c l ≡ l ∷ []
+  uncut : (x : Chosen) (l : List ℕ) → NoCut x → piecesBy (piecesFrom (length l) c) x l ≡ l ∷ []
+  uncut fewerThanTwo l h = refl
+  uncut noneAllowed l h = refl
+  uncut (cut i left right) l h = absurd h
+
+  pub pieces-uncut : (l : List ℕ) → NoCut (cutIn c l) → piecesOf c l ≡ l ∷ []
   unfolding piecesOf piecesFrom
-  pieces-uncut l e = go (tooLarge c l)
+  pieces-uncut l h = go (tooLarge c l)
     where
       go : (b : Bool) → piecesIf b (piecesFrom (length l) c) c l ≡ l ∷ []
-      go true = rw e
+      go true = uncut (cutIn c l) l h
       go false = refl
 
   looked : (l : List ℕ) (i : ℕ) (left right : Float) → tooLarge c l ≡ true → cutIn c l ≡ cut i left right

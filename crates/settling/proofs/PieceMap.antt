@@ -7,7 +7,7 @@ use lib.Ieee.{Float, lt}
 use lib.ListN.{length, take, drop, length-map}
 use Rattle.lists.proofs.Members.{map-same}
 use Rattle.whole.specs.Double.{sumF64}
-use Rattle.cut.specs.Cut.{Chosen, none, cut, cutOf}
+use Rattle.cut.specs.Cut.{Chosen, fewerThanTwo, noneAllowed, cut, cutOf}
 use Rattle.settling.specs.Pieces.{Cutting, cutIn, piecesBy, piecesIf, piecesFrom, piecesOf}
 use Rattle.lists.proofs.Parts.{map-take, map-drop, take-mem, drop-mem}
 use Rattle.settling.proofs.PieceBound.{tooLarge}
@@ -48,7 +48,8 @@ module _ (f : ℕ → ℕ) (c c′ : Cutting) where
       Again = (k : List ℕ) → ((p : ℕ) → List·Memᴰ p k → List·Memᴰ p l) → piecesFrom most c′ (map f k) ≡ map (map f) (piecesFrom most c k)
 
       by-cut : (x : Chosen) → Again → piecesBy (piecesFrom most c′) x (map f l) ≡ map (map f) (piecesBy (piecesFrom most c) x l)
-      by-cut none again = refl
+      by-cut fewerThanTwo again = refl
+      by-cut noneAllowed again = refl
       by-cut (cut i left right) again =
           ap₂ (λ (u v : List (List ℕ)). u ++ v)
           (ap (piecesFrom most c′) (sym (map-drop f i l)) ∙ again (drop i l) (λ p m. drop-mem i l m))

@@ -6,7 +6,8 @@ use mathlib.Core.List.{List, [], _∷_, _++_, append-assoc, append-nil}
 use mathlib.Core.Path.{_≡_, refl, ap, _∙_}
 use lib.Ieee.{Float}
 use lib.ListN.{take, drop}
-use Rattle.cut.specs.Cut.{none, cut}
+use Rattle.cut.specs.Cut.{cut}
+use Rattle.cut.proofs.Answer.{NoCut}
 use Rattle.settling.specs.Pieces.{Cutting, cutIn, piecesOf}
 use Rattle.settling.proofs.PieceBound.{tooLarge, pieces-small, pieces-uncut, pieces-cut}
 
@@ -32,7 +33,7 @@ module _ (c : Cutting) where
     todo-small e = ap (λ (l : List (List ℕ)). l ++ todo c ps) (pieces-small c p e)
 
     -- no cut is allowed
-    pub todo-uncut : cutIn c p ≡ none → todo c (p ∷ ps) ≡ p ∷ todo c ps
+    pub todo-uncut : NoCut (cutIn c p) → todo c (p ∷ ps) ≡ p ∷ todo c ps
     unfolding todo
     todo-uncut e = ap (λ (l : List (List ℕ)). l ++ todo c ps) (pieces-uncut c p e)
 

@@ -8,7 +8,8 @@ use native.Mathlib.Omega.{arith}
 use lib.Ieee.{Float}
 use lib.ListN.{length, getD, set, length-set}
 use lib.Seq.{slice, length-slice}
-use Rattle.cut.specs.Cut.{none, cut}
+use Rattle.cut.specs.Cut.{cut}
+use Rattle.cut.proofs.Answer.{NoCut}
 use Rattle.settling.specs.Pieces.{Cutting, cutIn, piecesOf}
 use Rattle.settling.proofs.PieceBound.{tooLarge, cut-inside}
 use Rattle.settling.proofs.PieceStack.{todo, todo-start, todo-end, todo-small, todo-uncut, todo-cut}
@@ -68,7 +69,7 @@ module _ (c : Cutting) (l starts : List ℕ) where
         → Looking c l starts (topOf starts depth) (depth - 1) (found ++ (topPart l starts end depth ∷ []))
     looking-small e = taken (todo-small c (topPart l starts end depth) (pending l starts (topOf starts depth) (depth - 1)) e)
 
-    pub looking-uncut : cutIn c (topPart l starts end depth) ≡ none
+    pub looking-uncut : NoCut (cutIn c (topPart l starts end depth))
         → Looking c l starts (topOf starts depth) (depth - 1) (found ++ (topPart l starts end depth ∷ []))
     looking-uncut e = taken (todo-uncut c (topPart l starts end depth) (pending l starts (topOf starts depth) (depth - 1)) e)
 

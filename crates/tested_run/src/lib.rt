@@ -40,6 +40,7 @@ pub fn run_tested(
     name_of: &mut [u32],
     size_of: &mut [f64],
     bits_of: &mut [u64],
+    mark_of: &mut [u8],
     scratch: &mut [u32],
 ) -> usize
     requires { ⌜ Runnable (record {
@@ -79,6 +80,7 @@ pub fn run_tested(
         name-of = now «name_of»;
         size-of = now «size_of»;
         bits-of = now «bits_of»;
+        mark-of = now «mark_of»;
       };
       scratch = now scratch;
     }) ⌝ }
@@ -119,6 +121,7 @@ pub fn run_tested(
         name-of = now («name_of» .entry);
         size-of = now («size_of» .entry);
         bits-of = now («bits_of» .entry);
+        mark-of = now («mark_of» .entry);
       };
       scratch = now (scratch .entry);
     }) (record {
@@ -129,6 +132,7 @@ pub fn run_tested(
         name-of = now («name_of» .exit);
         size-of = now («size_of» .exit);
         bits-of = now («bits_of» .exit);
+        mark-of = now («mark_of» .exit);
       };
       scratch = now (scratch .exit);
     }) ⌝ }
@@ -172,6 +176,7 @@ pub fn run_tested(
         name_of,
         size_of,
         bits_of,
+        mark_of,
         scratch,
     )
 }

@@ -112,6 +112,7 @@ pub struct Library {
     words: [Vec<u32>; 5],
     sizes: Vec<f64>,
     bits: Vec<u64>,
+    marks: Vec<u8>,
     scratch: Vec<u32>,
     count: usize,
 }
@@ -120,7 +121,7 @@ impl Library {
     /// Makes a build ready.
     pub fn new(chunks: &Chunks) -> Self {
         let handed = tables::of_chunks(chunks);
-        let [chunk_of, next_of, first_of, group_of, name_of, size_of, bits_of, scratch] =
+        let [chunk_of, next_of, first_of, group_of, name_of, size_of, bits_of, mark_of, scratch] =
             handed.areas;
         Self {
             groups: handed.groups.iter().map(group).collect(),
@@ -128,6 +129,7 @@ impl Library {
             words: [chunk_of, next_of, first_of, group_of, name_of].map(|length| vec![7; length]),
             sizes: vec![7.0; size_of],
             bits: vec![7; bits_of],
+            marks: vec![7; mark_of],
             scratch: vec![7; scratch],
             count: 0,
         }
@@ -145,6 +147,7 @@ impl Library {
             name_of,
             size_of: &mut self.sizes,
             bits_of: &mut self.bits,
+            mark_of: &mut self.marks,
             scratch: &mut self.scratch,
             count: &mut self.count,
         };

@@ -23,7 +23,7 @@ impl Room {
             Question::Merge(merge) => total(tables::areas_of_merge(merge), [4, 8, 32]),
             Question::Name(name) => total(tables::area_of_name(name), [1]),
             Question::Chunks(chunks) => {
-                total(tables::areas_of_chunks(chunks), [4, 4, 4, 4, 4, 8, 8, 4])
+                total(tables::areas_of_chunks(chunks), [4, 4, 4, 4, 4, 8, 8, 1, 4])
             }
         };
         Self(lengthened(question).saturating_add(areas))
@@ -93,8 +93,9 @@ mod tests {
     fn areas_are_counted_by_their_widths() {
         assert_eq!(room("with areas 5 7\ncapture a 0 0 0 0\n"), Room(5 + 4 * 7));
         assert_eq!(room("with areas 3 5 7\nmerge a 0 0 -\n"), Room(4 * 3 + 8 * 5 + 32 * 7));
-        let build = "chunks a 0 0 0 0 0 0\no - - - - - -\nareas 1 2 3 4\nrecords 5 6 7 8 9\nend\n";
-        assert_eq!(room(build), Room(4 * (1 + 2 + 5 + 6 + 7) + 8 * (8 + 9) + 4 * 4));
+        let build =
+            "chunks a 0 0 0 0 0 0\no - - - - - -\nareas 1 2 3 4\nrecords 5 6 7 8 9 10\nend\n";
+        assert_eq!(room(build), Room(4 * (1 + 2 + 5 + 6 + 7) + 8 * (8 + 9) + 10 + 4 * 4));
         assert_eq!(room("with areas 5\nname a 0 0 0 0 0 0 0 0 .\n"), Room(5));
         assert_eq!(room("sim a . .\n"), Room(0));
     }

@@ -9,6 +9,7 @@ mod page;
 mod picture;
 mod refused;
 mod shown;
+mod too_large;
 mod why;
 
 pub use as_calls::as_calls;

@@ -16,7 +16,7 @@ fn more_than_a_call_may_ask_for() {
     assert_eq!(
         messages,
         "chunklist: standard input: line 2: chunks b: its areas and lengthened tables \
-         take 68719476736 bytes, above 8589934592\n"
+         take 69793218560 bytes, above 8589934592\n"
     );
     assert_eq!((answers.as_str(), status), ("sim a 0\n", Some(1)));
 }

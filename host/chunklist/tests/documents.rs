@@ -32,6 +32,12 @@ fn the_readme_shows_the_picture() {
 }
 
 #[test]
+fn the_tree_form_shows_chunks_that_are_too_large() {
+    let document = document("docs/TREE-FORM.md");
+    assert!(document.contains(&indented(&content("large.window.expected"))));
+}
+
+#[test]
 fn the_first_example_of_the_tree_form() {
     let block = block(&document("docs/TREE-FORM.md"), "# The tree form");
     let (tree, list) = block.split_once("$ ./chunklist small.tree\n").expect("a command");

@@ -93,7 +93,7 @@ fn listed(text: &str, seed: Option<u32>) -> String {
 
 #[test]
 fn load_numbers_do_not_matter() {
-    let (mut several, mut others) = (0, 0);
+    let (mut several, mut others, mut too_large) = (0, 0, [0; 2]);
     for number in 0..TREES {
         let text = tree(number);
         let plain = listed(&text, None);
@@ -102,8 +102,11 @@ fn load_numbers_do_not_matter() {
         }
         several += u32::from(plain.contains("chunk 1:"));
         others += u32::from(plain.contains("entries none"));
+        too_large[0] += u32::from(plain.contains(": it has one module"));
+        too_large[1] += u32::from(plain.contains(": no cut of its modules leaves min_size"));
     }
     assert!(several > TREES / 3 && others > 0, "{several} with several chunks, {others}");
+    assert!(too_large.into_iter().all(|trees| trees > 0), "{too_large:?}");
 }
 
 #[test]

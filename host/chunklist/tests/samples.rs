@@ -34,6 +34,15 @@ fn a_tree_as_a_list() {
     assert_eq!(run(&[&path("widgets.tree")], b""), expected("widgets.expected", 0));
 }
 
+#[test]
+fn chunks_that_are_too_large() {
+    let (file, large) = (path("large.tree"), expected("large.expected", 0));
+    assert_eq!(run(&[&file], b""), large);
+    assert_eq!(run(&[&file, "--shuffle", "3"], b""), large);
+    let against_window = run(&[&file, "--window", "64k"], b"");
+    assert_eq!(against_window, expected("large.window.expected", 3));
+}
+
 /// One chunk is above the window, which has a status of its own.
 #[test]
 fn a_tree_against_a_window() {

@@ -6,7 +6,7 @@ use std::fmt::Write;
 
 use chunklist::tree::{Shown, TreeBuild, picture};
 use common::{Ran, run, samples::path};
-use text::{Answer, Build, ChunkList, Question, read_cases, read_replies};
+use text::{Answer, Build, ChunkList, Options, Question, read_cases, read_replies};
 
 /// What a run comes to that has to be good.
 fn good(arguments: &[&str], input: &str) -> String {
@@ -58,11 +58,12 @@ impl Comments<'_> {
             // None of the sample's names is long enough to be cut.
             let added = if aware { entries.as_slice() } else { &[] };
             let name = [&[self.name("name", bare)], added].concat().join("~");
+            let too_large = too_large(chunk.mark, &build.groups[group].options);
             let group = self.name("group", group);
             let (number, size, entries) = (chunk.chunk, chunk.size, entries.join(" "));
             writeln!(
                 text,
-                "\nchunk {number}: {name}, {size} bytes, group {group}, entries {entries}"
+                "\nchunk {number}: {name}, {size} bytes, group {group}, entries {entries}{too_large}"
             )
             .expect("a string takes all");
             for module in &chunk.modules {
@@ -72,6 +73,15 @@ impl Comments<'_> {
             }
         }
         text
+    }
+}
+
+/// What the list says of a mark; the sample has none of 2, and its maxima are those of groups.
+fn too_large(mark: u8, options: &Options) -> String {
+    match (mark, options.max_size) {
+        (0, _) => String::new(),
+        (1, Some(max_size)) => format!(", above its maximum of {max_size}: it has one module"),
+        other => panic!("{other:?}"),
     }
 }
 

@@ -1,6 +1,6 @@
 //! The recorded corpus: small cases that tell, chosen by the faults they notice and the kinds
 //! they show, with the crate's answers under the papers' order; and cases that tell the order of
-//! subgroups or notice faults of the reading of the papers.
+//! subgroups, tell marks or notice faults of the reading of the papers.
 //!
 //! Three pairs of files: `leaves.txt` and `builds.txt` with the crate's answers in
 //! `leaves.answers.txt` and `builds.answers.txt`, and `refusals.txt`, whose answers follow from
@@ -57,7 +57,7 @@ pub fn write(folder: &Path, check: bool) -> Result<bool, String> {
     let leaves =
         [Call::Similarity, Call::Cut, Call::Capture, Call::Filter, Call::Merge, Call::Name];
     let (mut builds, mut refusals) = (recorded(&[Call::Chunks]), refusals());
-    reading::add_orders(&mut builds);
+    reading::add_telling(&mut builds);
     reading::complete(&mut builds, &mut refusals);
     let mut files = Vec::new();
     for (name, origin, pair) in [

@@ -4,7 +4,7 @@
 use std::panic::{AssertUnwindSafe, catch_unwind};
 
 use faults::Fault;
-use judge::Judge;
+use judge::{Judge, Outside};
 use text::{Call, Question};
 
 use crate::{
@@ -118,6 +118,11 @@ pub fn accepted(question: Question) -> Option<(Question, Response)> {
     }
     match Judge::default().respond(&question) {
         Response::Answered(answer) => Some((question, Response::Answered(answer))),
+        Response::Outside(Outside::Broken(message)) => {
+            // What breaks off may do so without a word here, so it is said before.
+            eprintln!("differ: the crate's text failed: {message}");
+            panic!("the crate's text failed");
+        }
         _ => None,
     }
 }

@@ -32,8 +32,8 @@ differ: the crate's own text, the papers read plainly and the proved library, ru
                                                    CALL alone by its word in the text form
   differ faults [--cases N] [--seed S]             runs every deliberate fault (N: 4000)
   differ reading-faults [--cases N] [FOLDER]       runs every deliberate fault of the reading on the
-                                                   recorded builds and refusals, and on N random
-                                                   builds beside them (0)
+                                                   recorded builds, cuts and refusals, and on N
+                                                   random builds beside them (0)
   differ corpus [FOLDER]                           writes the recorded corpus (into `corpus`)
   differ corpus --check [FOLDER]                   compares the recorded corpus with a new one
   differ stack [--cases N]                         how much stack a call of the library takes, over

@@ -1,4 +1,4 @@
-//! Deliberate faults of the reading of the papers, held against the recorded builds and refusals.
+//! Deliberate faults of the reading of the papers, held against the recorded builds, cuts and refusals.
 
 use std::{
     fs,
@@ -6,12 +6,12 @@ use std::{
     path::Path,
 };
 
-use text::{Answer, Call, Chunks, Question, read_cases, read_replies};
+use text::{Answer, Call, Question, read_cases, read_replies};
 
 use crate::{
     generate::{self, damage},
     reference::{
-        BuildResult, build, fault_list,
+        CaseResult, case, fault_list,
         rules::{ReadingFault, Rules, SOUND},
     },
     rng::Rng,
@@ -24,35 +24,45 @@ const SEED: u64 = 30_001;
 pub struct Fared {
     pub fault: ReadingFault,
     pub builds: usize,
+    pub cuts: usize,
     pub refusals: usize,
     pub random: Option<usize>,
 }
 
-/// A whole build with what comes of it by the papers.
+impl Fared {
+    /// How many recorded cases notice it.
+    pub fn recorded(&self) -> usize {
+        self.builds + self.cuts + self.refusals
+    }
+}
+
+/// A whole build or a cut with what comes of it by the papers.
 struct Known {
-    chunks: Chunks,
-    sound: BuildResult,
+    question: Question,
+    sound: CaseResult,
 }
 
 /// Puts the recorded cases of a folder, and so many random ones, to the reading with each fault.
 pub fn all(folder: &Path, cases: u64) -> Result<Vec<Fared>, String> {
-    let (builds, refusals) = (recorded(folder, "builds")?, recorded(folder, "refusals")?);
+    let (builds, cuts) = (recorded(folder, "builds")?, recorded(folder, "leaves")?);
+    let refusals = recorded(folder, "refusals")?;
     let random: Vec<Known> = (0..cases).map(random).collect();
     let count = |fault, known: &[Known]| {
-        known.iter().filter(|k| notices(fault, &k.chunks, &k.sound)).count()
+        known.iter().filter(|k| notices(fault, &k.question, &k.sound)).count()
     };
     let fared = |fault| Fared {
         fault,
         builds: count(fault, &builds),
+        cuts: count(fault, &cuts),
         refusals: count(fault, &refusals),
         random: (cases > 0).then(|| count(fault, &random)),
     };
     Ok(fault_list::all().into_iter().map(fared).collect())
 }
 
-/// Whether a fault changes what comes of a build: its answer, or what a lent area holds.
-pub fn notices(fault: ReadingFault, chunks: &Chunks, sound: &BuildResult) -> bool {
-    let faulty = catch_unwind(AssertUnwindSafe(|| build(chunks, Rules::with(fault))));
+/// Whether a fault changes what comes of a case: its answer, or what an area lent to a build holds.
+pub fn notices(fault: ReadingFault, question: &Question, sound: &CaseResult) -> bool {
+    let faulty = catch_unwind(AssertUnwindSafe(|| case(question, Rules::with(fault))));
     match faulty {
         Ok(faulty) => faulty != *sound,
         // A condition may rely on those below it; breaking off before its turn tells nothing.
@@ -60,7 +70,7 @@ pub fn notices(fault: ReadingFault, chunks: &Chunks, sound: &BuildResult) -> boo
     }
 }
 
-/// The whole builds of a recorded file; the reading has to give their recorded answers.
+/// The whole builds and the cuts of a recorded file; the reading has to give their recorded answers.
 fn recorded(folder: &Path, name: &str) -> Result<Vec<Known>, String> {
     let read = |file: String| {
         let path = folder.join(file);
@@ -70,42 +80,50 @@ fn recorded(folder: &Path, name: &str) -> Result<Vec<Known>, String> {
     let cases = read_cases(&read(format!("{name}.txt"))?).map_err(said)?;
     let replies = read_replies(&read(format!("{name}.answers.txt"))?).map_err(said)?;
     let mut all = Vec::new();
-    for (case, reply) in cases.into_iter().zip(replies) {
-        let Question::Chunks(chunks) = case.question else { continue };
-        let sound = build(&chunks, SOUND);
-        if sound.outcome.clone().map(Answer::Chunks) != reply.outcome {
-            return Err(format!("{name}: the reading doesn't give the answer to {}", case.tag));
+    for (recorded, reply) in cases.into_iter().zip(replies) {
+        let question = recorded.question;
+        if !matches!(question, Question::Chunks(_) | Question::Cut(_)) {
+            continue;
         }
-        all.push(Known { chunks: *chunks, sound });
+        let sound = case(&question, SOUND);
+        if outcome(&sound) != reply.outcome {
+            return Err(format!("{name}: the reading doesn't give the answer to {}", recorded.tag));
+        }
+        all.push(Known { question, sound });
     }
     Ok(all)
 }
 
+/// The answer or the number of the refusal.
+fn outcome(result: &CaseResult) -> Result<Answer, u32> {
+    match result {
+        CaseResult::Build(build) => build.outcome.clone().map(Answer::Chunks),
+        CaseResult::Leaf(outcome) => outcome.clone(),
+    }
+}
+
 /// A random build, damaged every second time.
-fn random(case: u64) -> Known {
-    let mut rng = Rng::for_case(SEED, case);
+fn random(number: u64) -> Known {
+    let mut rng = Rng::for_case(SEED, number);
     let mut question = generate::random(Call::Chunks, &mut rng);
-    if case % 2 == 1 {
+    if number % 2 == 1 {
         question = generate::plain(Call::Chunks, &mut rng);
         damage::damage(&mut rng, &mut question);
     }
-    let Question::Chunks(chunks) = question else { unreachable!("a whole build was asked for") };
-    Known { sound: build(&chunks, SOUND), chunks: *chunks }
+    Known { sound: case(&question, SOUND), question }
 }
 
 #[cfg(test)]
 mod tests {
     use std::path::PathBuf;
 
-    use super::{Fared, all};
+    use super::all;
 
     #[test]
     fn the_recorded_cases_notice_every_fault() {
         let folder = PathBuf::from(env!("CARGO_MANIFEST_DIR")).join("../corpus");
-        for Fared { fault, builds, refusals, .. } in
-            all(&folder, 0).expect("the corpus can be read")
-        {
-            assert!(builds + refusals > 0, "{fault:?}");
+        for fared in all(&folder, 0).expect("the corpus can be read") {
+            assert!(fared.recorded() > 0, "{:?}", fared.fault);
         }
     }
 }

@@ -7,7 +7,7 @@ use text::Call;
 use crate::{
     fault_runs::{Count, Verdict},
     reading_faults::Fared,
-    run::{LargeTally, LibraryTally, NameTally, PairTally, Run, Tally},
+    run::{LargeTally, LibraryTally, NameTally, PairTally, ReasonTally, Run, Tally},
     slowest::{self, Slow, Took},
     stack::{Deepest, Depths},
 };
@@ -30,6 +30,7 @@ pub fn run(run: &Run) -> bool {
         print_large(&tally.large);
         print_pairs(&tally.pairs);
         print_names(&tally.names);
+        print_reasons(&tally.reasons);
         for (kind, count) in run.counts.of(*call) {
             println!("  {count:>9}  {kind}");
         }
@@ -98,10 +99,11 @@ fn print_large(tally: &LargeTally) {
 
 /// Pairs of builds that are alike but for load numbers.
 fn print_pairs(tally: &PairTally) {
-    let PairTally { pairs, chunks, chains, records, differ } = tally;
+    let PairTally { pairs, chunks, chains, marked, records, differ } = tally;
     if *pairs > 0 {
         print!("  renumbered: {pairs} pairs, {chunks} with a new chunk, {chains} with several ");
-        println!("modules in one, {records} with another count of records; {differ} differ");
+        print!("modules in one, {marked} with one above its maximum, ");
+        println!("{records} with another count of records; {differ} differ");
     }
 }
 
@@ -110,6 +112,17 @@ fn print_names(tally: &NameTally) {
     let NameTally { chunks, aware, cut } = tally;
     if *chunks > 0 {
         println!("  named: {chunks} chunks, {aware} of entries-aware groups, {cut} names cut");
+    }
+}
+
+/// Marks of chunks, and cuts without an answer.
+fn print_reasons(tally: &ReasonTally) {
+    let ReasonTally { marks: [within, one_module, no_cut], fewer, not_allowed } = tally;
+    if within + one_module + no_cut > 0 {
+        println!("  marks: {within} chunks of 0, {one_module} of 1, {no_cut} of 2");
+    }
+    if fewer + not_allowed > 0 {
+        println!("  no cut: {fewer} fewer than two modules, {not_allowed} none allowed");
     }
 }
 
@@ -143,11 +156,13 @@ pub fn faults(verdicts: &[Verdict]) -> bool {
 
 /// Prints how the reading's faults fared; true if the recorded cases notice every one.
 pub fn reading_faults(all: &[Fared]) -> bool {
-    for Fared { fault, builds, refusals, random } in all {
-        print!("{fault:?}: {} recorded ({builds} builds, {refusals} refusals)", builds + refusals);
+    for fared in all {
+        let Fared { fault, builds, cuts, refusals, random } = fared;
+        print!("{fault:?}: {} recorded ", fared.recorded());
+        print!("({builds} builds, {cuts} cuts, {refusals} refusals)");
         println!("{}", random.map_or(String::new(), |random| format!(", {random} random")));
     }
-    let unnoticed: Vec<&Fared> = all.iter().filter(|one| one.builds + one.refusals == 0).collect();
+    let unnoticed: Vec<&Fared> = all.iter().filter(|one| one.recorded() == 0).collect();
     for one in &unnoticed {
         println!("not noticed: {:?}", one.fault);
     }

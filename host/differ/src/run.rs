@@ -8,9 +8,11 @@ use text::{Answer, Call, Case, Chunks, Question, Reply, tables};
 mod largest;
 mod names;
 mod pairs;
+mod reasons;
 
 pub use names::NameTally;
 pub use pairs::PairTally;
+pub use reasons::ReasonTally;
 
 use crate::{
     generate::{self, damage, figures},
@@ -54,6 +56,7 @@ pub struct Tally {
     pub large: LargeTally,
     pub pairs: PairTally,
     pub names: NameTally,
+    pub reasons: ReasonTally,
 }
 
 /// What was run of random builds of 4,096 modules and 65,535 records.
@@ -98,6 +101,8 @@ pub struct Run {
     pairs: PairTally,
     /// The names of chunks of the present call's builds.
     names: NameTally,
+    /// The marks and the nones of the present call.
+    reasons: ReasonTally,
 }
 
 impl Run {
@@ -115,6 +120,7 @@ impl Run {
             library: LibraryTally::default(),
             pairs: PairTally::default(),
             names: NameTally::default(),
+            reasons: ReasonTally::default(),
         }
     }
 
@@ -158,6 +164,7 @@ impl Run {
         tally.library = std::mem::take(&mut self.library);
         tally.pairs = std::mem::take(&mut self.pairs);
         tally.names = std::mem::take(&mut self.names);
+        tally.reasons = std::mem::take(&mut self.reasons);
         tally.seconds = begin.elapsed();
         tally
     }
@@ -202,6 +209,7 @@ impl Run {
         let response = self.check_library(question, &expected);
         if let Response::Answered(answer) = &expected {
             self.counts.note(question.call(), &kinds::of(question, answer));
+            self.reasons.note(answer);
         }
         if let Question::Chunks(chunks) = question {
             self.check_walk(chunks, question);

@@ -2,7 +2,7 @@
 //!
 //! What may differ then: the order in which the subgroups of one entries-aware (group, name) are
 //! taken off the work list, and with it the numbers of their chunks. Everything else has to be
-//! the same: which modules each chunk holds and in which order, its group, name, size and bits,
+//! the same: which modules each chunk holds and in which order, its group, name, size, bits and mark,
 //! the order of groups and names, the order of the pieces of one subgroup, and that each
 //! subgroup's pieces follow one another.
 
@@ -89,6 +89,7 @@ mod tests {
             name,
             size: 1.0,
             bits: [1, 0, 0, 0],
+            mark: 0,
             modules: vec![module],
         }
     }
@@ -112,6 +113,9 @@ mod tests {
         assert_eq!(compare(&document, &origin, &pieces), Agreement::Differs);
         let names = list(vec![chunk(0, 1, 3), chunk(1, 0, 0), chunk(2, 0, 1), chunk(3, 0, 2)]);
         assert_eq!(compare(&document, &origin, &names), Agreement::Differs);
+        let mut marked = other.clone();
+        marked.chunks[0].mark = 1;
+        assert_eq!(compare(&document, &origin, &marked), Agreement::Differs);
         let fewer = list(vec![chunk(0, 0, 0), chunk(1, 0, 1)]);
         assert_eq!(compare(&document, &origin, &fewer), Agreement::Differs);
     }

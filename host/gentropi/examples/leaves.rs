@@ -1,8 +1,8 @@
 //! The leaf calls on small inputs: `cargo run -p gentropi --example leaves`.
 
 use gentropi::{
-    Chains, ChunkToName, FilteredModule, IdBuf, Refusal, StaticFilter, Subgroups, capture_to_vec,
-    chunk_name_to_vec, cut, filter, flag, limits, merge_to_vec, similarity,
+    Chains, ChunkToName, Cut, CutPoint, FilteredModule, IdBuf, Refusal, StaticFilter, Subgroups,
+    capture_to_vec, chunk_name_to_vec, cut, filter, flag, limits, merge_to_vec, similarity,
 };
 
 fn main() -> Result<(), Refusal> {
@@ -10,8 +10,11 @@ fn main() -> Result<(), Refusal> {
 
     let ids = IdBuf::from_iter(["ui/a", "ui/b", "vendor/b"]);
     match cut(ids.as_ids(), &[10, 10, 10], 0.0, 20.0)? {
-        Some(cut) => println!("cut after {}: {} and {}", cut.index, cut.left_size, cut.right_size),
-        None => println!("no cut"),
+        Cut::At(CutPoint { index, left_size, right_size }) => {
+            println!("cut after {index}: {left_size} and {right_size}");
+        }
+        Cut::FewerThanTwo => println!("no cut: fewer than two modules"),
+        Cut::NoneAllowed => println!("no cut that is allowed"),
     }
 
     let at_most_10 = StaticFilter { max_module_size: Some(10.0), ..StaticFilter::default() };

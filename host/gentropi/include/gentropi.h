@@ -78,6 +78,22 @@ enum gentropi_given {
     GENTROPI_ENTRIES_AWARE = 128 /* of a group only */
 };
 
+/* Where modules are cut, or why they aren't: what gentropi_cut writes into `why_none`. */
+enum gentropi_why_none {
+    GENTROPI_CUT_FOUND = 0,
+    GENTROPI_CUT_FEWER_THAN_TWO = 1, /* there are fewer than two modules */
+    GENTROPI_CUT_NONE_ALLOWED = 2    /* there are two or more, and each cut leaves a side below the minimum */
+};
+
+/* Whether a chunk is above its maximum, and why: its mark in `mark_of`. The maximum is the max_size in force, the group's or else that
+ * of the build; so is the min_size, which is 0 where none is given. A mark speaks of the modules that the chunk holds. */
+typedef uint8_t gentropi_mark;
+enum gentropi_marks {
+    GENTROPI_MARK_WITHIN = 0,        /* its size is at most its maximum, or it has none */
+    GENTROPI_MARK_ONE_MODULE = 1,    /* above its maximum, with one module */
+    GENTROPI_MARK_NO_CUT_ALLOWED = 2 /* above its maximum, with two or more; each cut in id order leaves a side below its min_size */
+};
+
 /* Answers about a module in `answers`: a name's number is added to the last. */
 enum gentropi_answer {
     GENTROPI_NOT_MATCHED = 0,
@@ -101,8 +117,9 @@ uint32_t gentropi_similarity(
     const uint8_t *rhs, size_t rhs_len,
     uint32_t *score);
 
-/* Where `n` modules are cut in two. Id i is bytes[offsets[i]..offsets[i + 1]], so there are n + 1 offsets. Writes `found`, and if
- * there is a cut how many modules are on the left and the sizes of the two sides. */
+/* Where `n` modules are cut in two. Id i is bytes[offsets[i]..offsets[i + 1]], so there are n + 1 offsets. Writes `why_none` (enum
+ * gentropi_why_none), and if there is a cut how many modules are on the left and the sizes of the two sides; if there is none, the
+ * other places stay as they were. */
 uint32_t gentropi_cut(
     size_t n,
     const uint8_t *bytes, size_t bytes_len,
@@ -110,7 +127,7 @@ uint32_t gentropi_cut(
     const uint64_t *sizes, size_t sizes_len,
     double minimum,
     double maximum,
-    bool *found,
+    uint8_t *why_none,
     size_t *index,
     double *left,
     double *right);
@@ -158,9 +175,9 @@ uint32_t gentropi_merge(
 
 /* The chunk list of a whole build: `n` modules, `g` groups, `e` entries, `k` names, `d` dependency records. `answers` has group by
  * group one answer for each module. Writes the first n items of `chunk_of` and `next_of` (a module's chunk, and the module after
- * it in its chunk, each plus 1, or 0), one item of the next five areas for each new chunk (`first_of`: its first module plus 1;
- * `bits_of`: four words), zeros into all of `scratch`, and how many new chunks there are into `count`. The first six areas need n
- * items each, `bits_of` 4 * n, `scratch` as many as gentropi_chunks_scratch_words says. */
+ * it in its chunk, each plus 1, or 0), one item of the next six areas for each new chunk (`first_of`: its first module plus 1;
+ * `bits_of`: four words; `mark_of`: enum gentropi_marks), zeros into all of `scratch`, and how many new chunks there are into `count`.
+ * The first six areas and `mark_of` need n items each, `bits_of` 4 * n, `scratch` as many as gentropi_chunks_scratch_words says. */
 uint32_t gentropi_chunks(
     size_t n,
     size_t g,
@@ -202,6 +219,7 @@ uint32_t gentropi_chunks(
     uint32_t *name_of, size_t name_of_len,
     double *size_of, size_t size_of_len,
     uint64_t *bits_of, size_t bits_of_len,
+    gentropi_mark *mark_of, size_t mark_of_len,
     uint32_t *scratch, size_t scratch_len,
     size_t *count);
 

@@ -1,6 +1,6 @@
 //! The chunk list of a whole build.
 
-use crate::{EntryBits, GroupBuf, Ids, Modules, Options, Refusal, needs, raw};
+use crate::{EntryBits, GroupBuf, Ids, Mark, Modules, Options, Refusal, needs, raw};
 
 /// A whole build.
 #[derive(Debug, Clone, Copy)]
@@ -98,7 +98,7 @@ impl<'a> Build<'a> {
     }
 }
 
-/// The areas that [`chunks`] writes. The first seven need as many items as there are modules, the
+/// The areas that [`chunks`] writes. The first eight need as many items as there are modules, the
 /// last as many as [`Build::scratch_words`] says.
 #[derive(Debug, PartialEq)]
 pub struct ChunksAreas<'a> {
@@ -116,6 +116,8 @@ pub struct ChunksAreas<'a> {
     pub size_of: &'a mut [f64],
     /// The entries of each new chunk.
     pub bits_of: &'a mut [EntryBits],
+    /// The number of each new chunk's [`Mark`].
+    pub mark_of: &'a mut [u8],
     /// All of it ends as zeros.
     pub scratch: &'a mut [u32],
 }
@@ -130,7 +132,8 @@ pub struct ChunksAreas<'a> {
 /// Refused with 1 to 13. There are as many modules as flag bytes.
 ///
 /// ```
-/// use gentropi::{Build, Chains, ChunksAreas, Group, GroupBuf, IdBuf, Options, chunks, flag, needs};
+/// use gentropi::{Build, Chains, ChunksAreas, Group, GroupBuf, IdBuf, Mark, Options};
+/// use gentropi::{chunks, flag, needs};
 ///
 /// // Two modules, of which the first depends on the second, and a group that matches the first.
 /// let ids = IdBuf::from_iter(["a", "b"]);
@@ -155,6 +158,7 @@ pub struct ChunksAreas<'a> {
 /// let (mut chunk_of, mut next_of, mut first_of) = (vec![9; items], vec![9; items], vec![9; items]);
 /// let (mut group_of, mut name_of) = (vec![9; items], vec![9; items]);
 /// let (mut size_of, mut bits_of) = (vec![9.0; items], vec![[9; 4]; items]);
+/// let mut mark_of = vec![9; items];
 /// let areas = ChunksAreas {
 ///     chunk_of: &mut chunk_of,
 ///     next_of: &mut next_of,
@@ -163,28 +167,29 @@ pub struct ChunksAreas<'a> {
 ///     name_of: &mut name_of,
 ///     size_of: &mut size_of,
 ///     bits_of: &mut bits_of,
+///     mark_of: &mut mark_of,
 ///     scratch: &mut vec![9; build.scratch_words()],
 /// };
 /// assert_eq!(chunks(&build, areas), Ok(1));
 /// // Both are in chunk 4, numbered plus 1: module 1 first, then module 0, which is the last.
 /// assert_eq!((chunk_of, first_of, next_of), (vec![5, 5], vec![2, 9], vec![0, 1]));
 /// assert_eq!((size_of, bits_of[0]), (vec![12.0, 9.0], [1, 0, 0, 0]));
+/// // It has no maximum.
+/// assert_eq!(mark_of, [Mark::Within.number(), 9]);
 /// ```
 pub fn chunks(build: &Build<'_>, areas: ChunksAreas<'_>) -> Result<usize, Refusal> {
-    let ChunksAreas { chunk_of, next_of, first_of, group_of, name_of, size_of, bits_of, scratch } =
-        areas;
-    let (mut count, bits_of) = (0, bits_of.as_flattened_mut());
-    let count_place = &mut count;
+    let mut count = 0;
     let areas = raw::ChunksAreas {
-        chunk_of,
-        next_of,
-        first_of,
-        group_of,
-        name_of,
-        size_of,
-        bits_of,
-        scratch,
-        count: count_place,
+        chunk_of: areas.chunk_of,
+        next_of: areas.next_of,
+        first_of: areas.first_of,
+        group_of: areas.group_of,
+        name_of: areas.name_of,
+        size_of: areas.size_of,
+        bits_of: areas.bits_of.as_flattened_mut(),
+        mark_of: areas.mark_of,
+        scratch: areas.scratch,
+        count: &mut count,
     };
     Refusal::check(raw::chunks(&build.tables(), areas))?;
     Ok(count)
@@ -203,6 +208,8 @@ pub struct Chunk {
     pub size: f64,
     /// Its entries.
     pub bits: EntryBits,
+    /// Whether it is above its maximum, and why.
+    pub mark: Mark,
     /// Its modules in execution order.
     pub modules: Vec<u32>,
 }
@@ -214,12 +221,15 @@ pub struct Chunk {
 /// Refused with 1 to 11.
 ///
 /// ```
-/// use gentropi::{Build, Chains, Group, GroupBuf, IdBuf, Options, chunks_to_vec, flag::ELIGIBLE};
+/// use gentropi::{Build, Chains, Group, GroupBuf, IdBuf, Mark, Options};
+/// use gentropi::{chunks_to_vec, flag::ELIGIBLE};
 ///
-/// // Two modules, of which the first depends on the second, and a group that matches the first.
+/// // Two modules, of which the first depends on the second, and a group that matches the first. Its
+/// // maximum is 11, and no cut leaves 6 on both sides.
 /// let ids = IdBuf::from_iter(["a", "b"]);
 /// let chains = Chains::from_lists([vec![1], vec![]]);
-/// let groups = GroupBuf::from_iter([Group::default()]);
+/// let options = Options { min_size: Some(6.0), max_size: Some(11.0), ..Options::default() };
+/// let groups = GroupBuf::from_iter([Group { options, ..Group::default() }]);
 /// let build = Build {
 ///     modules: chains.modules(&[ELIGIBLE; 2]),
 ///     ids: ids.as_ids(),
@@ -238,6 +248,7 @@ pub struct Chunk {
 /// let chunks = chunks_to_vec(&build).unwrap();
 /// assert_eq!(chunks.len(), 1);
 /// assert_eq!((chunks[0].number, chunks[0].size), (4, 12.0));
+/// assert_eq!(chunks[0].mark, Mark::NoCutAllowed);
 /// assert_eq!(chunks[0].modules, [1, 0]);
 /// ```
 pub fn chunks_to_vec(build: &Build<'_>) -> Result<Vec<Chunk>, Refusal> {
@@ -245,7 +256,7 @@ pub fn chunks_to_vec(build: &Build<'_>) -> Result<Vec<Chunk>, Refusal> {
     let numbers = || vec![0; n];
     let (mut chunk_of, mut next_of, mut first_of) = (numbers(), numbers(), numbers());
     let (mut group_of, mut name_of) = (numbers(), numbers());
-    let (mut size_of, mut bits_of) = (vec![0.0; n], vec![[0; 4]; n]);
+    let (mut size_of, mut bits_of, mut mark_of) = (vec![0.0; n], vec![[0; 4]; n], vec![0; n]);
     let areas = ChunksAreas {
         chunk_of: &mut chunk_of,
         next_of: &mut next_of,
@@ -254,6 +265,7 @@ pub fn chunks_to_vec(build: &Build<'_>) -> Result<Vec<Chunk>, Refusal> {
         name_of: &mut name_of,
         size_of: &mut size_of,
         bits_of: &mut bits_of,
+        mark_of: &mut mark_of,
         scratch: &mut vec![0; build.scratch_words()],
     };
     let count = chunks(build, areas)?;
@@ -263,6 +275,7 @@ pub fn chunks_to_vec(build: &Build<'_>) -> Result<Vec<Chunk>, Refusal> {
         name: name_of[record],
         size: size_of[record],
         bits: bits_of[record],
+        mark: Mark::numbered(mark_of[record]).expect("the library is proved to write no other"),
         modules: chain(first_of[record], &next_of),
     };
     Ok((0..count).map(chunk).collect())

@@ -8,11 +8,11 @@
 //! | call | asks | answers |
 //! |---|---|---|
 //! | [`similarity`] | how alike two stable ids are | a score |
-//! | [`cut`] | where an oversized list of modules is cut in two | a [`Cut`], or none |
+//! | [`cut`] | where an oversized list of modules is cut in two | a [`Cut`]: where, or why not |
 //! | [`filter`] | whether a module passes a group's static limits | yes or no |
 //! | [`capture`] | what a module captures along its dependencies | a mark for each module |
 //! | [`merge`] | which small subgroups join which | numbers, sizes and entry bits |
-//! | [`chunks`] | how a whole build is divided | the new chunks |
+//! | [`chunks`] | how a whole build is divided | the new chunks, each with a [`Mark`] |
 //! | [`chunk_name`] | what a chunk is called | its name |
 //!
 //! Areas are lent by the caller and may be longer than needed: what lies past the end keeps its
@@ -24,15 +24,17 @@
 //! # Example
 //!
 //! ```
-//! use gentropi::{IdBuf, Refusal, cut, similarity};
+//! use gentropi::{Cut, CutPoint, IdBuf, Refusal, cut, similarity};
 //!
 //! # fn main() -> Result<(), Refusal> {
 //! assert_eq!(similarity(b"src/a", b"src/b")?, 49);
 //!
 //! // Three modules of 10 bytes each, none too small, 20 bytes at most on a side.
 //! let ids = IdBuf::from_iter(["ui/a", "ui/b", "vendor/b"]);
-//! let found = cut(ids.as_ids(), &[10, 10, 10], 0.0, 20.0)?.expect("a cut is allowed");
-//! assert_eq!((found.index, found.left_size, found.right_size), (2, 20.0, 10.0));
+//! let point = CutPoint { index: 2, left_size: 20.0, right_size: 10.0 };
+//! assert_eq!(cut(ids.as_ids(), &[10, 10, 10], 0.0, 20.0)?, Cut::At(point));
+//! // None is allowed if both sides have to reach 20.
+//! assert_eq!(cut(ids.as_ids(), &[10, 10, 10], 20.0, 20.0)?, Cut::NoneAllowed);
 //!
 //! // A limit that says nothing is refused, with a number and a meaning.
 //! let refusal = cut(ids.as_ids(), &[10, 10, 10], f64::NAN, 20.0).unwrap_err();
@@ -61,6 +63,7 @@ mod filter;
 mod groups;
 mod ids;
 pub mod limits;
+mod mark;
 mod merge;
 pub mod needs;
 #[allow(unsafe_code)]
@@ -72,10 +75,11 @@ pub mod sys;
 pub use capture::{Chains, Modules, capture, capture_to_vec, flag};
 pub use chunk_name::{ChunkToName, chunk_name, chunk_name_to_vec};
 pub use chunks::{Build, Chunk, ChunksAreas, chunks, chunks_to_vec};
-pub use cut::{Cut, cut};
+pub use cut::{Cut, CutPoint, cut};
 pub use filter::{FilteredModule, StaticFilter, filter};
 pub use groups::{Group, GroupBuf, Options};
 pub use ids::{IdBuf, Ids, similarity};
+pub use mark::Mark;
 pub use merge::{EntryBits, MergeAreas, Merged, Subgroups, merge, merge_to_vec};
 pub use refusal::Refusal;
 

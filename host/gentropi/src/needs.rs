@@ -95,7 +95,8 @@ pub const fn merge_items(subgroups: usize) -> usize {
 }
 
 /// How many items each area of [`chunks`](crate::chunks) needs, except scratch: as many as there are
-/// modules, though fewer chunks may come. In [`raw`](crate::raw) and in C bits are counted in words.
+/// modules, though fewer chunks may come; a mark is a byte. In [`raw`](crate::raw) and in C bits are
+/// counted in words.
 ///
 /// ```
 /// assert_eq!(gentropi::needs::chunks_items(3), 3);

@@ -59,8 +59,9 @@ pub struct CutTables<'a> {
 /// The places that Cut writes.
 #[derive(Debug, Clone, Copy, PartialEq, Default)]
 pub struct CutPlaces {
-    /// Whether there is a cut; the other places keep their content if there is none.
-    pub found: bool,
+    /// 0 if there is a cut. If there is none, the other places keep their content, and this is 1
+    /// where there are fewer than two modules, 2 where there are more and no cut is allowed.
+    pub why_none: u8,
     /// How many modules are on the left.
     pub index: usize,
     /// The size of the left side.
@@ -78,7 +79,10 @@ pub struct CutPlaces {
 /// let tables = CutTables { n: 2, bytes, offsets, sizes, minimum: 0.0, maximum: 9.0 };
 /// let mut places = CutPlaces::default();
 /// assert_eq!(raw::cut(&tables, &mut places), 0);
-/// assert_eq!(places, CutPlaces { found: true, index: 1, left: 5.0, right: 7.0 });
+/// assert_eq!(places, CutPlaces { why_none: 0, index: 1, left: 5.0, right: 7.0 });
+/// // No cut leaves 6 on both sides, and the other places stay as they are.
+/// assert_eq!(raw::cut(&CutTables { minimum: 6.0, ..tables }, &mut places), 0);
+/// assert_eq!(places, CutPlaces { why_none: 2, index: 1, left: 5.0, right: 7.0 });
 /// ```
 pub fn cut(tables: &CutTables<'_>, places: &mut CutPlaces) -> u32 {
     // SAFETY: as in `similarity`; the four places are fields of one value that is lent to this call.
@@ -93,7 +97,7 @@ pub fn cut(tables: &CutTables<'_>, places: &mut CutPlaces) -> u32 {
             tables.sizes.len(),
             tables.minimum,
             tables.maximum,
-            &mut places.found,
+            &mut places.why_none,
             &mut places.index,
             &mut places.left,
             &mut places.right,
@@ -359,6 +363,9 @@ pub struct ChunksAreas<'a> {
     pub size_of: &'a mut [f64],
     /// The entry bits of each new chunk, four words each.
     pub bits_of: &'a mut [u64],
+    /// The mark of each new chunk: 0 within its maximum or without one, 1 above it with one module, 2
+    /// above it with no cut allowed.
+    pub mark_of: &'a mut [u8],
     /// `(p + 32) * n` words, of which all end as zeros; `p` counts the pairs of a group and a name
     /// among the answers.
     pub scratch: &'a mut [u32],
@@ -398,7 +405,7 @@ pub struct ChunksAreas<'a> {
 /// };
 /// let (mut chunk_of, mut next_of, mut first_of) = ([9], [9], [9]);
 /// let (mut group_of, mut name_of, mut size_of, mut bits_of) = ([9], [9], [9.0], [9; 4]);
-/// let (mut scratch, mut count) = ([9; 33], 9);
+/// let (mut mark_of, mut scratch, mut count) = ([9], [9; 33], 9);
 /// let areas = raw::ChunksAreas {
 ///     chunk_of: &mut chunk_of,
 ///     next_of: &mut next_of,
@@ -407,13 +414,14 @@ pub struct ChunksAreas<'a> {
 ///     name_of: &mut name_of,
 ///     size_of: &mut size_of,
 ///     bits_of: &mut bits_of,
+///     mark_of: &mut mark_of,
 ///     scratch: &mut scratch,
 ///     count: &mut count,
 /// };
 /// assert_eq!(raw::chunks(&tables, areas), 0);
 /// assert_eq!((count, chunk_of, next_of, first_of), (1, [1], [0], [1]));
 /// assert_eq!((group_of, name_of, size_of, bits_of), ([0], [0], [5.0], [1, 0, 0, 0]));
-/// assert_eq!(scratch, [0; 33]);
+/// assert_eq!((mark_of, scratch), ([0], [0; 33]));
 /// ```
 pub fn chunks(tables: &ChunksTables<'_>, areas: ChunksAreas<'_>) -> u32 {
     let ChunksTables { options, groups, .. } = tables;
@@ -488,6 +496,8 @@ pub fn chunks(tables: &ChunksTables<'_>, areas: ChunksAreas<'_>) -> u32 {
             areas.size_of.len(),
             areas.bits_of.as_mut_ptr(),
             areas.bits_of.len(),
+            areas.mark_of.as_mut_ptr(),
+            areas.mark_of.len(),
             areas.scratch.as_mut_ptr(),
             areas.scratch.len(),
             areas.count,

@@ -34,7 +34,8 @@ unsafe extern "C" {
         score: *mut u32,
     ) -> u32;
 
-    /// Cut of `n` modules. Writes `found`, and if there is a cut the three others.
+    /// Cut of `n` modules. Writes `why_none`: 0 if there is a cut, and then the three others too, 1 if
+    /// there are fewer than two modules, 2 if there are more and no cut is allowed.
     pub fn gentropi_cut(
         n: usize,
         bytes: *const u8,
@@ -45,7 +46,7 @@ unsafe extern "C" {
         sizes_len: usize,
         minimum: f64,
         maximum: f64,
-        found: *mut bool,
+        why_none: *mut u8,
         index: *mut usize,
         left: *mut f64,
         right: *mut f64,
@@ -109,7 +110,9 @@ unsafe extern "C" {
     /// 8 `max_module_size`, 16 `min_share_count`, 32 recursion is given, 64 it is on, and of a group
     /// 128 `entries_aware`; the number of an option that isn't given is not read. Writes the first
     /// `n` items of `chunk_of` and `next_of`, as many records as there are new chunks, zeros into
-    /// all of `scratch`, and `count`. [`needs`](crate::needs) says how much stack it takes.
+    /// all of `scratch`, and `count`. In `mark_of` 0 is a chunk within its maximum or without one, 1
+    /// one above it with one module, 2 one above it of which no cut is allowed.
+    /// [`needs`](crate::needs) says how much stack it takes.
     pub fn gentropi_chunks(
         n: usize,
         g: usize,
@@ -179,6 +182,8 @@ unsafe extern "C" {
         size_of_len: usize,
         bits_of: *mut u64,
         bits_of_len: usize,
+        mark_of: *mut u8,
+        mark_of_len: usize,
         scratch: *mut u32,
         scratch_len: usize,
         count: *mut usize,

@@ -89,7 +89,8 @@ fn areas_past_the_end_are_kept_and_scratch_ends_as_zeros() {
     let build = Build { on_entry: 4, ..small.build(&[2, 0, 0]) };
     let (mut chunk_of, mut next_of, mut first_of) = ([9; 4], [9; 4], [9; 3]);
     let (mut group_of, mut name_of, mut size_of) = ([9; 3], [9; 3], [9.0; 3]);
-    let (mut bits_of, mut scratch) = ([[9; 4]; 3], vec![9; build.scratch_words() + 1]);
+    let (mut bits_of, mut mark_of) = ([[9; 4]; 3], [9; 3]);
+    let mut scratch = vec![9; build.scratch_words() + 1];
     let areas = ChunksAreas {
         chunk_of: &mut chunk_of,
         next_of: &mut next_of,
@@ -98,12 +99,14 @@ fn areas_past_the_end_are_kept_and_scratch_ends_as_zeros() {
         name_of: &mut name_of,
         size_of: &mut size_of,
         bits_of: &mut bits_of,
+        mark_of: &mut mark_of,
         scratch: &mut scratch,
     };
     assert_eq!(chunks(&build, areas), Ok(1));
     assert_eq!((chunk_of, next_of), ([5, 5, 0, 9], [0, 1, 0, 9]));
     assert_eq!((first_of, group_of, name_of), ([2, 9, 9], [0, 9, 9], [0, 9, 9]));
     assert_eq!((size_of, bits_of), ([12.0, 9.0, 9.0], [[1, 0, 0, 0], [9; 4], [9; 4]]));
+    assert_eq!(mark_of, [0, 9, 9]);
     assert!(scratch.iter().all(|word| *word == 0));
 }
 
@@ -132,7 +135,8 @@ fn shorter(build: &Build<'_>, which: usize) -> Result<usize, Refusal> {
     let (mut chunk_of, mut next_of, mut first_of) = (words(0), words(1), words(2));
     let (mut group_of, mut name_of) = (words(3), words(4));
     let (mut size_of, mut bits_of) = (vec![9.0; length(5)], vec![[9; 4]; length(6)]);
-    let mut scratch = vec![9; build.scratch_words() - usize::from(which == 7)];
+    let mut mark_of = vec![9; length(7)];
+    let mut scratch = vec![9; build.scratch_words() - usize::from(which == 8)];
     let areas = ChunksAreas {
         chunk_of: &mut chunk_of,
         next_of: &mut next_of,
@@ -141,13 +145,15 @@ fn shorter(build: &Build<'_>, which: usize) -> Result<usize, Refusal> {
         name_of: &mut name_of,
         size_of: &mut size_of,
         bits_of: &mut bits_of,
+        mark_of: &mut mark_of,
         scratch: &mut scratch,
     };
     let answer = chunks(build, areas);
     let words = [chunk_of, next_of, first_of, group_of, name_of, scratch].concat();
     let kept = words.iter().all(|word| *word == 9)
         && size_of.iter().all(|size| *size == 9.0)
-        && bits_of.iter().all(|bits| *bits == [9; 4]);
+        && bits_of.iter().all(|bits| *bits == [9; 4])
+        && mark_of.iter().all(|mark| *mark == 9);
     assert_eq!(answer.is_err(), kept, "area {which}");
     answer
 }
@@ -156,9 +162,9 @@ fn shorter(build: &Build<'_>, which: usize) -> Result<usize, Refusal> {
 fn each_area_is_tested() {
     let small = Small::new(&[Group::default()]);
     let build = small.build(&[2, 0, 0]);
-    for area in 0..7 {
+    for area in 0..8 {
         assert_eq!(shorter(&build, area), Err(Refusal::AREA), "area {area}");
     }
-    assert_eq!(shorter(&build, 7), Err(Refusal::SCRATCH));
-    assert_eq!(shorter(&build, 8), Ok(1));
+    assert_eq!(shorter(&build, 8), Err(Refusal::SCRATCH));
+    assert_eq!(shorter(&build, 9), Ok(1));
 }

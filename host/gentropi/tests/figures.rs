@@ -1,18 +1,22 @@
 //! The paper's figures for the five calls, through the safe layer.
 
 use gentropi::{
-    Chains, Cut, FilteredModule, IdBuf, Merged, Refusal, StaticFilter, Subgroups, capture_to_vec,
-    cut, filter, flag, merge_to_vec, similarity,
+    Chains, Cut, CutPoint, FilteredModule, IdBuf, Merged, Refusal, StaticFilter, Subgroups,
+    capture_to_vec, cut, filter, flag, merge_to_vec, similarity,
 };
 
 /// The largest total.
 const LARGEST: u64 = 1 << 53;
 
-/// A cut as index and sizes, or none.
-fn cut_of(ids: &[&str], sizes: &[u64], minimum: f64, maximum: f64) -> Option<(usize, f64, f64)> {
+/// A cut that is accepted.
+fn cut_of(ids: &[&str], sizes: &[u64], minimum: f64, maximum: f64) -> Cut {
     let ids: IdBuf = ids.iter().collect();
-    let found = cut(ids.as_ids(), sizes, minimum, maximum).expect("it is accepted");
-    found.map(|Cut { index, left_size, right_size }| (index, left_size, right_size))
+    cut(ids.as_ids(), sizes, minimum, maximum).expect("it is accepted")
+}
+
+/// A cut by its index and sizes.
+fn at(index: usize, left_size: f64, right_size: f64) -> Cut {
+    Cut::At(CutPoint { index, left_size, right_size })
 }
 
 /// Number, size and first word of each subgroup after a merge with threshold 10.
@@ -37,27 +41,31 @@ fn similarity_of_ids() {
 #[test]
 fn cut_takes_the_lowest_similarity() {
     let ids = ["ui/a", "ui/b", "vendor/b"];
-    assert_eq!(cut_of(&ids, &[10, 10, 10], 0.0, 20.0), Some((2, 20.0, 10.0)));
+    assert_eq!(cut_of(&ids, &[10, 10, 10], 0.0, 20.0), at(2, 20.0, 10.0));
 }
 
 #[test]
 fn cut_keeps_to_its_minimum() {
     let (ids, sizes) = (["m1", "m2", "m3"], [10, 20, 30]);
-    assert_eq!(cut_of(&ids, &sizes, 0.0, 40.0), Some((2, 30.0, 30.0)));
-    assert_eq!(cut_of(&ids, &sizes, 30.0, 40.0), Some((2, 30.0, 30.0)));
-    assert_eq!(cut_of(&ids, &sizes, 31.0, 40.0), None);
+    assert_eq!(cut_of(&ids, &sizes, 0.0, 40.0), at(2, 30.0, 30.0));
+    assert_eq!(cut_of(&ids, &sizes, 30.0, 40.0), at(2, 30.0, 30.0));
+    assert_eq!(cut_of(&ids, &sizes, 31.0, 40.0), Cut::NoneAllowed);
 }
 
 #[test]
 fn cut_ties_within_ten() {
-    assert_eq!(cut_of(&["ka", "kaa", "kk"], &[5, 1, 1], 0.0, 10.0), Some((1, 5.0, 2.0)));
-    assert_eq!(cut_of(&["ja", "jaa", "kk"], &[5, 1, 1], 0.0, 10.0), Some((2, 6.0, 1.0)));
+    assert_eq!(cut_of(&["ka", "kaa", "kk"], &[5, 1, 1], 0.0, 10.0), at(1, 5.0, 2.0));
+    assert_eq!(cut_of(&["ja", "jaa", "kk"], &[5, 1, 1], 0.0, 10.0), at(2, 6.0, 1.0));
 }
 
 #[test]
 fn cut_needs_two_modules() {
-    assert_eq!(cut_of(&[], &[], 0.0, 0.0), None);
-    assert_eq!(cut_of(&["a"], &[1], 0.0, 0.0), None);
+    for (minimum, maximum) in [(0.0, 0.0), (f64::INFINITY, 0.0), (f64::NEG_INFINITY, -1.0)] {
+        assert_eq!(cut_of(&[], &[], minimum, maximum), Cut::FewerThanTwo);
+        assert_eq!(cut_of(&["a"], &[1], minimum, maximum), Cut::FewerThanTwo);
+    }
+    assert_eq!(cut_of(&["a", "b"], &[1, 1], f64::INFINITY, 0.0), Cut::NoneAllowed);
+    assert_eq!(cut_of(&["a", "b"], &[0, 0], 0.0, 0.0), at(1, 0.0, 0.0));
 }
 
 #[test]
@@ -71,7 +79,7 @@ fn merge_joins_what_is_small() {
 #[test]
 fn totals_go_up_to_two_to_the_53() {
     let half = LARGEST / 2;
-    let sides = Some((1, half as f64, half as f64));
+    let sides = at(1, half as f64, half as f64);
     assert_eq!(cut_of(&["a", "b"], &[half, half], 0.0, 0.0), sides);
     assert_eq!(merged(0, &[(LARGEST, 0)]), [(0, LARGEST, 0)]);
     let module = FilteredModule { size: LARGEST, ..FilteredModule::default() };

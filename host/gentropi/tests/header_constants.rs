@@ -3,8 +3,9 @@
 use std::{fs, path::Path};
 
 use gentropi::{
-    Refusal, flag, limits,
+    Mark, Refusal, flag, limits,
     needs::{self, Call},
+    raw::{self, CutPlaces, CutTables},
 };
 
 fn header() -> String {
@@ -67,6 +68,38 @@ fn refusals_are_the_same() {
         count += 1;
     }
     assert_eq!((count, enumerated(&header, "ACCEPTED")), (16, 0));
+}
+
+#[test]
+fn marks_are_the_same() {
+    let header = header();
+    for mark in Mark::ALL {
+        let name = match mark {
+            Mark::Within => "MARK_WITHIN",
+            Mark::OneModule => "MARK_ONE_MODULE",
+            Mark::NoCutAllowed => "MARK_NO_CUT_ALLOWED",
+        };
+        assert_eq!(enumerated(&header, name), u64::from(mark.number()), "{name}");
+    }
+    assert!(header.contains("\ntypedef uint8_t gentropi_mark;\n"));
+}
+
+/// What a call of Cut writes for the first `n` of two modules of 5 bytes each.
+fn why_none(n: usize, minimum: f64) -> u64 {
+    let (offsets, sizes) = (&[0, 1, 2][..=n], &[5, 5][..n]);
+    let tables = CutTables { n, bytes: b"ab", offsets, sizes, minimum, maximum: 9.0 };
+    let mut places = CutPlaces { why_none: 9, ..CutPlaces::default() };
+    assert_eq!(raw::cut(&tables, &mut places), 0);
+    places.why_none.into()
+}
+
+#[test]
+fn kinds_of_none_are_the_same() {
+    let header = header();
+    assert_eq!(why_none(2, 5.0), enumerated(&header, "CUT_FOUND"));
+    assert_eq!(why_none(2, 6.0), enumerated(&header, "CUT_NONE_ALLOWED"));
+    assert_eq!(why_none(1, 5.0), enumerated(&header, "CUT_FEWER_THAN_TWO"));
+    assert_eq!(why_none(0, 5.0), enumerated(&header, "CUT_FEWER_THAN_TWO"));
 }
 
 #[test]

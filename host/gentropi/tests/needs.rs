@@ -113,8 +113,9 @@ impl Owned {
 }
 
 /// The call with areas of so many items, in the order of the call; bits in words.
-fn chunks(build: &gentropi::Build<'_>, lengths: [usize; 8]) -> u32 {
-    let [chunk_of, next_of, first_of, group_of, name_of, size_of, bits_of, scratch] = lengths;
+fn chunks(build: &gentropi::Build<'_>, lengths: [usize; 9]) -> u32 {
+    let [chunk_of, next_of, first_of, group_of, name_of, size_of, bits_of, mark_of, scratch] =
+        lengths;
     let areas = raw::ChunksAreas {
         chunk_of: &mut vec![9; chunk_of],
         next_of: &mut vec![9; next_of],
@@ -123,6 +124,7 @@ fn chunks(build: &gentropi::Build<'_>, lengths: [usize; 8]) -> u32 {
         name_of: &mut vec![9; name_of],
         size_of: &mut vec![9.0; size_of],
         bits_of: &mut vec![9; bits_of],
+        mark_of: &mut vec![9; mark_of],
         scratch: &mut vec![9; scratch],
         count: &mut 0,
     };
@@ -130,9 +132,9 @@ fn chunks(build: &gentropi::Build<'_>, lengths: [usize; 8]) -> u32 {
 }
 
 /// The lengths that a build needs.
-fn needed(build: &gentropi::Build<'_>) -> [usize; 8] {
+fn needed(build: &gentropi::Build<'_>) -> [usize; 9] {
     let n = needs::chunks_items(build.modules.flags.len());
-    [n, n, n, n, n, n, needs::bits_words(n), build.scratch_words()]
+    [n, n, n, n, n, n, needs::bits_words(n), n, build.scratch_words()]
 }
 
 #[test]
@@ -141,10 +143,10 @@ fn a_build_needs_what_is_said() {
     let build = owned.build();
     let needed = needed(&build);
     assert_eq!(chunks(&build, needed), 0);
-    for area in 0..8 {
+    for area in 0..9 {
         let mut short = needed;
         short[area] -= 1;
-        let number = if area == 7 { 13 } else { 12 };
+        let number = if area == 8 { 13 } else { 12 };
         assert_eq!(chunks(&build, short), number, "area {area}");
     }
 }
@@ -182,7 +184,7 @@ fn the_stack_is_enough_for_the_largest_leaves() {
     assert_eq!(merged.map(|merged| merged.len()), Ok(4_096));
     let ids = owned.ids.as_ids();
     let cut = on_its_stack(Call::Cut, || gentropi::cut(ids, &owned.sizes, 10.0, 100.0));
-    assert!(cut.is_ok_and(|cut| cut.is_some()));
+    assert!(cut.is_ok_and(|cut| cut.point().is_some()));
     let names: IdBuf = (0..limits::NAMES).map(|number| format!("{number:05}")).collect();
     let entries: IdBuf = (0..limits::ENTRIES).map(|entry| format!("entry {entry}")).collect();
     let chunk = gentropi::ChunkToName {

@@ -17,7 +17,7 @@ fn similarity_refuses_long_ids() {
 }
 
 /// A cut of ids that are parts of "abc".
-fn cut_with(offsets: &[u32], sizes: &[u64]) -> Result<Option<Cut>, Refusal> {
+fn cut_with(offsets: &[u32], sizes: &[u64]) -> Result<Cut, Refusal> {
     cut(Ids { bytes: b"abc", offsets }, sizes, 0.0, 0.0)
 }
 
@@ -148,7 +148,7 @@ fn counts_that_are_not_those_of_the_tables_are_refused() {
         minimum: 0.0,
         maximum: 0.0,
     };
-    let mut places = raw::CutPlaces { found: true, index: 7, left: 7.0, right: 7.0 };
+    let mut places = raw::CutPlaces { why_none: 7, index: 7, left: 7.0, right: 7.0 };
     let before = places;
     assert_eq!(Refusal::check(raw::cut(&tables, &mut places)), Err(Refusal::COUNT));
     assert_eq!(places, before);

@@ -5,7 +5,8 @@ use rolldown_common::{ModuleIdx, ModuleTable};
 use rolldown_utils::BitSet;
 use rustc_hash::order::under;
 use text::{
-    Build, Capture, Cut, CutAnswer, Filter, Group, Merge, MergedSubgroup, Module, Options, Sim,
+    Build, Capture, Cut, CutAnswer, CutOutcome, Filter, Group, Merge, MergedSubgroup, Module,
+    Options, Sim,
 };
 
 use crate::{
@@ -21,12 +22,18 @@ pub fn similarity(text: &CrateText, sim: &Sim) -> Result<u32, Outside> {
     u32::try_from(value).map_err(|_| Outside::Broken(format!("similarity {value}")))
 }
 
-/// A cut of modules in the order given.
-pub fn cut(text: &CrateText, cut: &Cut) -> Result<Option<CutAnswer>, Outside> {
+/// A cut of modules in the order given. The text has one none; which of the papers' two it is
+/// follows from the count of modules.
+pub fn cut(text: &CrateText, cut: &Cut) -> Result<CutOutcome, Outside> {
     let ids = cut.modules.iter().map(|(id, _)| id_text(id)).collect::<Result<Vec<_>, _>>()?;
     let sizes: Vec<f64> = cut.modules.iter().map(|(_, size)| *size as f64).collect();
-    let answer = (text.cut)(&ids, &sizes, cut.minimum, cut.maximum);
-    Ok(answer.map(|(index, left, right)| CutAnswer { index: index as u64, left, right }))
+    Ok(match (text.cut)(&ids, &sizes, cut.minimum, cut.maximum) {
+        Some((index, left, right)) => {
+            CutOutcome::At(CutAnswer { index: index as u64, left, right })
+        }
+        None if cut.modules.len() < 2 => CutOutcome::FewerThanTwo,
+        None => CutOutcome::NoneAllowed,
+    })
 }
 
 /// A capture from a start module.

@@ -13,6 +13,7 @@ mod crate_text;
 mod groups;
 mod judge;
 mod leaves;
+mod marks;
 mod names;
 pub mod probe;
 pub mod stages;

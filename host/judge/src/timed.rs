@@ -12,7 +12,7 @@ use crate::{
     chunk_graph::ChunkGraph,
     copies,
     groups::match_groups,
-    leaves,
+    leaves, marks,
     probe::{clock, took},
     whole,
 };
@@ -40,7 +40,9 @@ impl<'a> TimedBuild<'a> {
 
     /// The chunk list that a run left, sizes at zero.
     pub fn list(&self, graph: &ChunkGraph) -> Result<ChunkList, Outside> {
-        whole::chunk_list(graph, self.build)
+        let mut list = whole::chunk_list(graph, self.build)?;
+        marks::mark(TEXT, self.build, &mut list)?;
+        Ok(list)
     }
 }
 

@@ -11,11 +11,13 @@ use crate::{
     bits::words,
     chunk_graph::ChunkGraph,
     groups::{match_groups, name_number},
+    marks,
     names::entries,
     probe::{self, clock},
 };
 
-/// The chunk list of a build, in the text's own words and with the sizes that the probe reports.
+/// The chunk list of a build, in the text's own words, with the sizes that the probe reports and the
+/// marks that follow from its chunks.
 pub fn chunks(judge: &Judge, build: &Build) -> Result<ChunkList, Outside> {
     let world = World::new(build, match_groups(build, judge.callbacks))?;
     let mut list = run(judge, judge.text, &world, build)?;
@@ -32,6 +34,7 @@ pub fn chunks(judge: &Judge, build: &Build) -> Result<ChunkList, Outside> {
     for (chunk, size) in list.chunks.iter_mut().zip(sizes) {
         chunk.size = size;
     }
+    marks::mark(judge.text, build, &mut list)?;
     Ok(list)
 }
 
@@ -53,7 +56,7 @@ pub fn names(
     names.ok_or_else(|| Outside::Broken("a chunk without its name".into()))
 }
 
-/// Runs one copy, from the callbacks to the sorted modules. Sizes are left at zero.
+/// Runs one copy, from the callbacks to the sorted modules. Sizes and marks are left at zero.
 fn run(
     judge: &Judge,
     text: &CrateText,
@@ -142,6 +145,7 @@ fn new_chunk(idx: ChunkIdx, chunk: &Chunk) -> Result<text::Chunk, Outside> {
         name: name.ok_or_else(|| Outside::Broken("a chunk without its name".into()))?,
         size: 0.0,
         bits: words(&chunk.bits),
+        mark: 0,
         modules: chunk.modules.iter().map(|module| module.raw()).collect(),
     })
 }

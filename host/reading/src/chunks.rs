@@ -1,6 +1,7 @@
 //! The chunk list of a whole build, by document 01's steps 1 to 5, with document 02's last tie in
-//! step 3.
+//! step 3 and its marks.
 
+mod marks;
 mod subgroups;
 
 use std::collections::{BTreeMap, BTreeSet, VecDeque};
@@ -31,6 +32,8 @@ struct Item {
     /// The bits of its subgroup, if it is entries-aware.
     bits: Option<[u64; 4]>,
     modules: Modules,
+    /// What it held before modules left it; of a piece, what it was cut from.
+    before: Modules,
     /// The module that its place among the subgroups of its set goes by; it may have left since.
     first: Option<usize>,
     /// Its number in the work list at the start, which its pieces keep.
@@ -135,7 +138,8 @@ impl Build<'_> {
         let mut items = Vec::new();
         for ((group, name), modules) in sets {
             let first = self.ties().first(&modules);
-            let item = Item { group, name, bits: None, modules, first, origin: 0, piece: false };
+            let (before, origin, piece) = (Modules::new(), 0, false);
+            let item = Item { group, name, bits: None, modules, before, first, origin, piece };
             if self.is_entries_aware(group) {
                 items.extend(self.subgroups(item));
             } else {
@@ -146,6 +150,7 @@ impl Build<'_> {
         items.sort_by_key(|item| std::cmp::Reverse(self.priority(item.group)));
         for (origin, item) in items.iter_mut().enumerate() {
             item.origin = origin;
+            item.before = item.modules.clone();
         }
         if let Some(story) = &mut self.story {
             story.items = items.iter().map(planned).collect();
@@ -228,17 +233,29 @@ impl Build<'_> {
 
     /// A limit in force: a group's option overrides the global one.
     fn limit(&self, group: usize, setting: Setting) -> Option<f64> {
-        self.rules.double(setting, &self.tables.groups[group], &self.tables.options)
+        self.limit_by(self.rules, group, setting)
+    }
+
+    fn limit_by(&self, rules: Rules, group: usize, setting: Setting) -> Option<f64> {
+        rules.double(setting, &self.tables.groups[group], &self.tables.options)
     }
 
     fn min_size(&self, group: usize) -> f64 {
-        let absent = self.rules.default(Setting::MinSize, 0.0, 1.0);
-        self.limit(group, Setting::MinSize).unwrap_or(absent)
+        self.min_size_by(self.rules, group)
+    }
+
+    fn min_size_by(&self, rules: Rules, group: usize) -> f64 {
+        let absent = rules.default(Setting::MinSize, 0.0, 1.0);
+        self.limit_by(rules, group, Setting::MinSize).unwrap_or(absent)
     }
 
     fn max_size(&self, group: usize) -> Option<f64> {
-        let absent = self.rules.default(Setting::MaxSize, None, Some(0.0));
-        self.limit(group, Setting::MaxSize).or(absent)
+        self.max_size_by(self.rules, group)
+    }
+
+    fn max_size_by(&self, rules: Rules, group: usize) -> Option<f64> {
+        let absent = rules.default(Setting::MaxSize, None, Some(0.0));
+        self.limit_by(rules, group, Setting::MaxSize).or(absent)
     }
 
     fn is_entries_aware(&self, group: usize) -> bool {
@@ -265,8 +282,7 @@ impl Build<'_> {
             return None;
         }
         let id_of = |module: &usize| id(&self.tables.ids, &self.tables.offsets, *module);
-        let mut modules: Vec<usize> = item.modules.iter().copied().collect();
-        modules.sort_by_key(id_of);
+        let modules = self.in_id_order(&item.modules);
         let ids: Vec<&[u8]> = modules.iter().map(id_of).collect();
         let sizes: Vec<u64> = modules.iter().map(|module| self.tables.sizes[*module]).collect();
         let Some((index, _, _)) = cut(&ids, &sizes, min_size, max_size) else {
@@ -276,6 +292,7 @@ impl Build<'_> {
         self.trace.events.push(if item.piece { Event::CutAgain } else { Event::Cut });
         let piece = |part: &[usize]| Item {
             modules: part.iter().copied().collect(),
+            before: item.modules.clone(),
             piece: true,
             ..item.clone()
         };
@@ -300,12 +317,14 @@ impl Build<'_> {
             self.trace.events.push(Event::WiderBits);
         }
         self.trace.origin.push(item.origin);
+        let mark = self.mark(item);
         Chunk {
             chunk: number(self.tables.count_on_entry as usize + count),
             group: number(item.group),
             name: item.name,
             size: self.total(&item.modules) as f64,
             bits,
+            mark,
             modules: self.in_execution_order(&item.modules).into_iter().map(number).collect(),
         }
     }
@@ -324,6 +343,13 @@ impl Build<'_> {
     /// The sum of the sizes of modules.
     fn total(&self, modules: &Modules) -> u64 {
         modules.iter().map(|module| self.tables.sizes[*module]).sum()
+    }
+
+    /// Modules in byte order of their ids.
+    fn in_id_order(&self, modules: &Modules) -> Vec<usize> {
+        let mut modules: Vec<usize> = modules.iter().copied().collect();
+        modules.sort_by_key(|module| id(&self.tables.ids, &self.tables.offsets, *module));
+        modules
     }
 
     /// Modules in execution order.

@@ -1,6 +1,9 @@
 //! The cut of a list of modules in two.
 
-use crate::similarity::similarity;
+use crate::{
+    rules::{Rules, Telling},
+    similarity::similarity,
+};
 
 /// A cut that is allowed, with what decides between cuts.
 #[derive(Debug, Clone, Copy)]
@@ -63,4 +66,18 @@ pub fn cut(ids: &[&[u8]], sizes: &[u64], minimum: f64, maximum: f64) -> Option<(
         }
     }
     best.map(|best| (best.index, best.left, best.right))
+}
+
+/// Of modules without a cut: whether there are fewer than two of them. Else no cut is allowed.
+pub fn is_fewer(rules: Rules, sizes: &[u64], minimum: f64) -> bool {
+    let fewer = sizes.len() < 2;
+    match rules.telling() {
+        None => fewer,
+        Some(Telling::Exchanged) => !fewer,
+        Some(Telling::AlwaysFewer) => true,
+        Some(Telling::NeverFewer) => false,
+        Some(Telling::FewerThanOne) => sizes.is_empty(),
+        Some(Telling::FewerThanThree) => sizes.len() < 3,
+        Some(Telling::FewerAtMinimum) => fewer && sizes.iter().sum::<u64>() as f64 >= minimum,
+    }
 }

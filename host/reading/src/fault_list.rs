@@ -2,7 +2,7 @@
 
 use text::{Count, Table};
 
-use crate::rules::{Area, Lengths, Level, ReadingFault as F, Setting, Tie, Use};
+use crate::rules::{Area, Lengths, Level, Marking, ReadingFault as F, Setting, Telling, Tie, Use};
 
 /// The limits among the options, and the options that are global ones too.
 const LIMITS: [Setting; 4] =
@@ -29,6 +29,8 @@ pub fn all() -> Vec<F> {
     all.extend(Tie::ALL.map(F::SubgroupsBy));
     all.extend([F::PiecesById, F::PiecesLast]);
     all.extend([F::CutBeforeDropped, F::AtMinSizeDropped, F::AtMaxSizeCut]);
+    all.extend(Marking::ALL.map(F::Marks));
+    all.extend(Telling::ALL.map(F::Nones));
     let written = Area::ALL.into_iter().filter(|area| *area != Area::Scratch);
     all.extend(written.map(F::PastEnd));
     all.extend([F::RecordsByNumber, F::ScratchKept]);
@@ -64,7 +66,7 @@ fn conditions() -> Vec<F> {
     all.extend((1..4).flat_map(|word| [F::BitsUntested(word), F::BitAtWord(word)]));
     all.extend([F::AnswerHigher, F::AnswerLower, F::AnswersOfFirstGroup, F::AnswersOfLastGroup]);
     all.extend([F::EntryCountHigher, F::EntryCountLower]);
-    all.extend([F::ShortChunkOf, F::ShortNextOf, F::ShortRecords, F::ShortScratch]);
+    all.extend([F::ShortChunkOf, F::ShortNextOf, F::ShortRecords, F::ShortMarkOf, F::ShortScratch]);
     all.extend([F::PairsEligible, F::PairsUnnamed, F::PairsFiltered]);
     all.extend([F::PairsByName, F::PairsRepeated, F::Words31, F::Words33]);
     all

@@ -1,4 +1,4 @@
-//! An independent plain reading of document 01 and of document 02's notes 1 and 2: the refusals by
+//! An independent plain reading of document 01 and of document 02's notes 1, 2 and 4: the refusals by
 //! their tables, and the results.
 //!
 //! It is written from the papers and not from the crate, for small inputs and without any care
@@ -20,12 +20,17 @@ pub mod ties;
 pub mod trace;
 pub mod utf8;
 
-use text::{Answer, ChunkList, CutAnswer, Question, tables};
+use text::{Answer, ChunkList, CutAnswer, CutOutcome, Question, tables};
 
 use rules::{Rules, SOUND};
 
 /// The answer, or the number of the refusal.
 pub fn answer(question: &Question) -> Result<Answer, u32> {
+    answer_by(SOUND, question)
+}
+
+/// The same by other rules. Faults are of whole builds, and of why there is no cut.
+pub fn answer_by(rules: Rules, question: &Question) -> Result<Answer, u32> {
     match question {
         Question::Sim(sim) => {
             refuse(refusals::similarity(&sim.left, &sim.right))?;
@@ -38,7 +43,7 @@ pub fn answer(question: &Question) -> Result<Answer, u32> {
         Question::Cut(cut) => {
             let tables = tables::of_cut(cut);
             refuse(refusals::cut(&tables))?;
-            Ok(Answer::Cut(cut_answer(&tables)))
+            Ok(Answer::Cut(cut_answer(rules, &tables)))
         }
         Question::Capture(capture) => {
             let tables = tables::of_capture(capture);
@@ -55,7 +60,7 @@ pub fn answer(question: &Question) -> Result<Answer, u32> {
             refuse(refusals::name(&tables))?;
             Ok(Answer::Name(name::name(&tables)))
         }
-        Question::Chunks(chunks) => outcome(&tables::of_chunks(chunks), SOUND).map(Answer::Chunks),
+        Question::Chunks(chunks) => outcome(&tables::of_chunks(chunks), rules).map(Answer::Chunks),
     }
 }
 
@@ -70,11 +75,17 @@ fn refuse(number: Option<u32>) -> Result<(), u32> {
     number.map_or(Ok(()), Err)
 }
 
-fn cut_answer(tables: &tables::CutTables) -> Option<CutAnswer> {
-    let ids: Vec<&[u8]> =
-        (0..tables.sizes.len()).map(|k| id(&tables.ids, &tables.offsets, k)).collect();
-    let (index, left, right) = cut::cut(&ids, &tables.sizes, tables.minimum, tables.maximum)?;
-    Some(CutAnswer { index: index as u64, left: left as f64, right: right as f64 })
+fn cut_answer(rules: Rules, tables: &tables::CutTables) -> CutOutcome {
+    let tables::CutTables { minimum, maximum, sizes, .. } = tables;
+    let ids: Vec<&[u8]> = (0..sizes.len()).map(|k| id(&tables.ids, &tables.offsets, k)).collect();
+    match cut::cut(&ids, sizes, *minimum, *maximum) {
+        Some((index, left, right)) => {
+            let (left, right) = (left as f64, right as f64);
+            CutOutcome::At(CutAnswer { index: index as u64, left, right })
+        }
+        None if cut::is_fewer(rules, sizes, *minimum) => CutOutcome::FewerThanTwo,
+        None => CutOutcome::NoneAllowed,
+    }
 }
 
 fn capture_answer(tables: &tables::CaptureTables) -> Vec<u8> {

@@ -1,4 +1,4 @@
-//! Document 01's two tables of refusals, and note 1's: of the numbers a call tests, the lowest that
+//! Document 01's two tables of refusals, and those of notes 1 and 4: of the numbers a call tests, the lowest that
 //! applies.
 
 use std::collections::BTreeSet;
@@ -131,7 +131,7 @@ pub fn chunks(tables: &BuildTables, rules: Rules) -> Option<u32> {
             (12, &|| short_output(tables, rules)),
             (13, &|| {
                 let spare = u64::from(rules.has(F::ShortScratch));
-                (tables.areas[7] as u64) + spare < scratch_need(tables, rules)
+                (tables.areas[8] as u64) + spare < scratch_need(tables, rules)
             }),
         ],
     )
@@ -319,16 +319,17 @@ fn most_on_entry(rules: Rules) -> u64 {
         - u64::from(rules.has(F::EntryCountLower))
 }
 
-/// 12, of a build.
+/// 12, of a build; that of note 4 is among the areas.
 fn short_output(tables: &BuildTables, rules: Rules) -> bool {
     let spare = |fault| u64::from(rules.has(fault));
-    let [chunk_of, next_of, first, group, name, size, bits, _] =
+    let [chunk_of, next_of, first, group, name, size, bits, mark, _] =
         tables.areas.map(|length| length as u64);
     let records = spare(F::ShortRecords);
     chunk_of + spare(F::ShortChunkOf) < tables.n
         || next_of + spare(F::ShortNextOf) < tables.n
         || [first, group, name, size].into_iter().any(|length| length + records < tables.n)
         || bits + 4 * records < 4 * tables.n
+        || mark + records + spare(F::ShortMarkOf) < tables.n
 }
 
 /// 13: P×N + 32×N words.

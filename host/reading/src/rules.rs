@@ -69,10 +69,12 @@ pub enum ReadingFault {
     /// 11: 65,536 is accepted; 65,535 is refused.
     EntryCountHigher,
     EntryCountLower,
-    /// 12 and 13: an area that is one short is accepted.
+    /// 12 and 13: an area that is one short is accepted; `ShortRecords` is of all areas of records,
+    /// `ShortMarkOf` of that of marks alone.
     ShortChunkOf,
     ShortNextOf,
     ShortRecords,
+    ShortMarkOf,
     ShortScratch,
     /// 13: P over eligible modules; over answers of 1 too; over modules that pass the filter.
     PairsEligible,
@@ -112,6 +114,10 @@ pub enum ReadingFault {
     /// An item at min_size is dropped; one at max_size is cut.
     AtMinSizeDropped,
     AtMaxSizeCut,
+    /// A chunk's mark is worked out otherwise.
+    Marks(Marking),
+    /// Why a cut has no answer is told otherwise.
+    Nones(Telling),
     /// An area is written one entry past its end, or by a refused call.
     PastEnd(Area),
     RefusedWrites(Area),
@@ -196,7 +202,85 @@ impl Tie {
     ];
 }
 
-/// A lent area. The five of the chunk records are `First` to `Bits`.
+/// How the mark of a chunk is got wrong.
+#[derive(Debug, Clone, Copy, PartialEq, Eq)]
+pub enum Marking {
+    /// 1 and 2 stand for each other; one of them stands for both.
+    Exchanged,
+    AlwaysOne,
+    AlwaysTwo,
+    /// A chunk at its maximum is marked.
+    AtMaximum,
+    /// A limit is read otherwise than where items are cut.
+    GlobalFirst(Setting),
+    Ignored(Level, Setting),
+    Default(Setting),
+    /// Any cut is allowed; one side that reaches the minimum is enough.
+    AnyCut,
+    OneSideEnough,
+    /// Cuts are of the modules in execution order, or by load number.
+    InExecutionOrder,
+    ByLoadNumber,
+    /// It is that of the item before modules left, or only the size is.
+    BeforeLeaving,
+    SizeBeforeLeaving,
+    /// A piece's is that of what was cut, or only the size is.
+    BeforeCut,
+    SizeBeforeCut,
+}
+
+impl Marking {
+    /// Those that make a difference. Where no minimum is given each cut is allowed, so that an absent
+    /// one which counts as another has none.
+    pub const ALL: [Self; 19] = [
+        Self::Exchanged,
+        Self::AlwaysOne,
+        Self::AlwaysTwo,
+        Self::AtMaximum,
+        Self::GlobalFirst(Setting::MaxSize),
+        Self::GlobalFirst(Setting::MinSize),
+        Self::Ignored(Level::Global, Setting::MaxSize),
+        Self::Ignored(Level::Global, Setting::MinSize),
+        Self::Ignored(Level::Group, Setting::MaxSize),
+        Self::Ignored(Level::Group, Setting::MinSize),
+        Self::Default(Setting::MaxSize),
+        Self::AnyCut,
+        Self::OneSideEnough,
+        Self::InExecutionOrder,
+        Self::ByLoadNumber,
+        Self::BeforeLeaving,
+        Self::SizeBeforeLeaving,
+        Self::BeforeCut,
+        Self::SizeBeforeCut,
+    ];
+}
+
+/// How it is told wrong why there is no cut.
+#[derive(Debug, Clone, Copy, PartialEq, Eq)]
+pub enum Telling {
+    /// Each stands for the other; one of them stands for both.
+    Exchanged,
+    AlwaysFewer,
+    NeverFewer,
+    /// One module isn't fewer than two, or two are.
+    FewerThanOne,
+    FewerThanThree,
+    /// Too few modules are told only where these reach the minimum.
+    FewerAtMinimum,
+}
+
+impl Telling {
+    pub const ALL: [Self; 6] = [
+        Self::Exchanged,
+        Self::AlwaysFewer,
+        Self::NeverFewer,
+        Self::FewerThanOne,
+        Self::FewerThanThree,
+        Self::FewerAtMinimum,
+    ];
+}
+
+/// A lent area. The six of the chunk records are `First` to `Mark`.
 #[derive(Debug, Clone, Copy, PartialEq, Eq)]
 pub enum Area {
     ChunkOf,
@@ -206,11 +290,12 @@ pub enum Area {
     Name,
     Size,
     Bits,
+    Mark,
     Scratch,
 }
 
 impl Area {
-    pub const ALL: [Self; 8] = [
+    pub const ALL: [Self; 9] = [
         Self::ChunkOf,
         Self::NextOf,
         Self::First,
@@ -218,6 +303,7 @@ impl Area {
         Self::Name,
         Self::Size,
         Self::Bits,
+        Self::Mark,
         Self::Scratch,
     ];
 }
@@ -348,6 +434,26 @@ impl Rules {
     /// What subgroups follow one another by, if it isn't the smallest id.
     pub fn tie(self) -> Option<Tie> {
         if let Some(F::SubgroupsBy(tie)) = self.fault { Some(tie) } else { None }
+    }
+
+    /// How marks are got wrong, if they are.
+    pub fn marking(self) -> Option<Marking> {
+        if let Some(F::Marks(marking)) = self.fault { Some(marking) } else { None }
+    }
+
+    /// The rules by which marks read their limits.
+    pub fn of_marks(self) -> Self {
+        match self.marking() {
+            Some(Marking::GlobalFirst(setting)) => Self::with(F::GlobalFirst(setting)),
+            Some(Marking::Ignored(level, setting)) => Self::with(F::Ignored(level, setting)),
+            Some(Marking::Default(setting)) => Self::with(F::Default(setting)),
+            _ => self,
+        }
+    }
+
+    /// How the two nones of a cut are told wrong, if they are.
+    pub fn telling(self) -> Option<Telling> {
+        if let Some(F::Nones(telling)) = self.fault { Some(telling) } else { None }
     }
 
     /// The area that a refused call writes.

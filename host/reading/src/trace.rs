@@ -31,6 +31,10 @@ pub enum Event {
     Uncuttable,
     /// A piece of a cut was cut again.
     CutAgain,
+    /// A piece of a cut became a chunk above its max_size.
+    PieceAbove,
+    /// A chunk's mark isn't the one that its item had before modules left.
+    MarkChanged,
     /// Modules left an item that stayed.
     Narrowed,
     /// A chunk holds entries that none of its modules has.

@@ -24,6 +24,15 @@ fn without_comments(text: &str) -> String {
     pieces.fold(first, |code, piece| code + piece.split_once("*/").map_or("", |(_, rest)| rest))
 }
 
+/// A C text with the types that its own names of types stand for: `typedef TYPE NAME;`.
+fn without_typedefs(text: &str) -> String {
+    let named = text.lines().filter_map(|line| line.strip_prefix("typedef ")?.strip_suffix(';'));
+    let named = named.filter_map(|named| named.split_once(' '));
+    named.fold(text.to_string(), |code, (kind, name)| {
+        code.replace(&format!("{name} *"), &format!("{kind} *"))
+    })
+}
+
 #[test]
 fn every_export_is_found() {
     let marked: usize = files("crates/gentropi/src", ".rt")
@@ -37,7 +46,7 @@ fn every_export_is_found() {
 #[test]
 fn the_header_declares_the_exports() {
     let header = without_comments(&read("host/gentropi/include/gentropi.h"));
-    let found = declared(&header, "\nuint32_t ", ");");
+    let found = declared(&without_typedefs(&header), "\nuint32_t ", ");");
     assert_eq!(by_name(found), exported().iter().map(in_c).collect::<Vec<_>>());
 }
 
@@ -53,6 +62,15 @@ fn the_page_for_hosts_names_the_exports() {
     for function in exported() {
         assert!(page.contains(&format!("`{}`", function.name)), "{}", function.name);
     }
+}
+
+#[test]
+fn a_name_of_a_type_counts_as_the_type() {
+    let header = "typedef uint8_t mark;\nuint32_t one(mark *a, size_t a_len);";
+    let function = &declared("fn one(a: &mut [u8]) -> u32", "fn ", ") -> u32")[0];
+    assert_eq!(declared(&without_typedefs(header), "\nuint32_t ", ");"), [in_c(function)]);
+    let other = header.replace("uint8_t", "uint32_t");
+    assert_ne!(declared(&without_typedefs(&other), "\nuint32_t ", ");"), [in_c(function)]);
 }
 
 #[test]

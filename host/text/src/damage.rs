@@ -125,7 +125,7 @@ pub struct Damage {
     /// Lengths of the lent areas in the order of the call; without them there is room to spare.
     pub areas: Option<Vec<usize>>,
     /// Lengths of the areas of chunk records, where those of a build are told apart: first module,
-    /// group, name, size, and bits in words.
+    /// group, name, size, bits in words, and mark.
     pub records: Option<Vec<usize>>,
 }
 

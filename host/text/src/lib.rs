@@ -34,7 +34,7 @@ pub use case::{Name, Question, Record, Sim, Subgroup};
 pub use damage::{Count, Damage, Table};
 pub use lines::whole_text;
 pub use quote::Quoted;
-pub use reply::{Answer, Chunk, ChunkList, CutAnswer, MergedSubgroup, Reply};
+pub use reply::{Answer, Chunk, ChunkList, CutAnswer, CutOutcome, MergedSubgroup, Reply};
 
 /// Why a text can't be read, and in which line.
 #[derive(Debug, Clone, PartialEq, Eq)]

@@ -103,7 +103,7 @@ fn damage(lines: &mut Lines<'_>, modules: usize) -> Result<Damage, TextError> {
             "len" => damage.lengths.push(length_line(&mut words, &all_tables())?),
             "count" => damage.counts.push(count_line(&mut words, &all_counts())?),
             "areas" => damage.areas = Some(words.times(4, |words| words.area("LENGTH"))?),
-            "records" => damage.records = Some(words.times(5, |words| words.area("LENGTH"))?),
+            "records" => damage.records = Some(words.times(6, |words| words.area("LENGTH"))?),
             _ => {
                 words.end()?;
                 return Ok(damage);

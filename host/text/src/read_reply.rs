@@ -1,7 +1,8 @@
 //! Reads replies, to compare them with others.
 
 use crate::{
-    Answer, Call, Chunk, ChunkList, CutAnswer, MergedSubgroup, Quoted, Reply, TextError,
+    Answer, Call, Chunk, ChunkList, CutAnswer, CutOutcome, MergedSubgroup, Quoted, Reply,
+    TextError,
     lines::Lines,
     words::{Words, decimal, hexadecimal},
 };
@@ -42,17 +43,29 @@ fn answer(lines: &mut Lines<'_>, call: Call, words: &mut Words<'_>) -> Result<An
     Ok(answer)
 }
 
-fn cut(words: &mut Words<'_>) -> Result<Option<CutAnswer>, TextError> {
+fn cut(words: &mut Words<'_>) -> Result<CutOutcome, TextError> {
     if words.clone().exactly("none").is_ok() {
         words.word("none")?;
-        return Ok(None);
+        return none(words);
     }
     let index = words.number("INDEX")?;
     let answer =
         CutAnswer { index, left: words.double("LEFT_BITS")?, right: words.double("RIGHT_BITS")? };
     size(words, answer.left)?;
     size(words, answer.right)?;
-    Ok(Some(answer))
+    Ok(CutOutcome::At(answer))
+}
+
+/// Why there is no cut.
+fn none(words: &mut Words<'_>) -> Result<CutOutcome, TextError> {
+    match words.word("fewer-than-two or not-allowed")? {
+        "fewer-than-two" => Ok(CutOutcome::FewerThanTwo),
+        "not-allowed" => Ok(CutOutcome::NoneAllowed),
+        word => {
+            let word = Quoted(word);
+            words.error(format!("none is `fewer-than-two` or `not-allowed`, not `{word}`"))
+        }
+    }
 }
 
 /// The decimal form of a size that has been read by its bits.
@@ -121,7 +134,15 @@ fn chunk(lines: &mut Lines<'_>) -> Result<Chunk, TextError> {
     let (chunk, group) = (words.number("CHUNK")?, words.number("GROUP")?);
     let (name, chunk_size) = (words.number("NAME")?, words.double("SIZE_BITS")?);
     size(&mut words, chunk_size)?;
-    let bits = words.bits()?;
+    let (bits, mark) = (words.bits()?, mark(&mut words)?);
     let modules = words.all(|words| words.number("MODULE"))?;
-    Ok(Chunk { chunk, group, name, size: chunk_size, bits, modules })
+    Ok(Chunk { chunk, group, name, size: chunk_size, bits, mark, modules })
+}
+
+/// Why a chunk is too large, if it is.
+fn mark(words: &mut Words<'_>) -> Result<u8, TextError> {
+    match words.number("MARK")? {
+        mark @ 0..=2 => Ok(mark),
+        mark => words.error(format!("MARK is 0, 1 or 2, not {mark}")),
+    }
 }

@@ -19,8 +19,7 @@ pub struct Reply {
 #[derive(Debug, Clone, PartialEq)]
 pub enum Answer {
     Sim(u32),
-    /// A cut, or none.
-    Cut(Option<CutAnswer>),
+    Cut(CutOutcome),
     /// One mark for each module.
     Capture(Vec<u8>),
     Filter(bool),
@@ -28,6 +27,16 @@ pub enum Answer {
     Chunks(ChunkList),
     /// The bytes of a chunk's name.
     Name(Vec<u8>),
+}
+
+/// A cut, or why there is none.
+#[derive(Debug, Clone, Copy, PartialEq)]
+pub enum CutOutcome {
+    /// There are fewer than two modules.
+    FewerThanTwo,
+    /// There are two or more, and no cut of them is allowed.
+    NoneAllowed,
+    At(CutAnswer),
 }
 
 /// A cut with its two sizes.
@@ -74,6 +83,9 @@ pub struct Chunk {
     pub name: u32,
     pub size: f64,
     pub bits: [u64; 4],
+    /// Why it is too large: 0 it is within its maximum or has none, 1 it is above it with one module,
+    /// 2 it is above it and no cut of its modules is allowed.
+    pub mark: u8,
     /// Its modules in execution order.
     pub modules: Vec<u32>,
 }
@@ -86,6 +98,7 @@ impl PartialEq for Chunk {
             && self.name == other.name
             && self.size.to_bits() == other.size.to_bits()
             && self.bits == other.bits
+            && self.mark == other.mark
             && self.modules == other.modules
     }
 }

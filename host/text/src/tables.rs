@@ -81,8 +81,8 @@ pub struct BuildTables {
     /// Group by group, one for each module.
     pub answers: Vec<u32>,
     /// Lengths of the areas in the order of the call: chunk of each module, next of each module, the
-    /// five of chunk records (bits in words), scratch.
-    pub areas: [usize; 8],
+    /// six of chunk records (bits in words, the mark last), scratch.
+    pub areas: [usize; 9],
 }
 
 /// The tables of a cut.
@@ -175,7 +175,7 @@ pub fn of_chunks(chunks: &Chunks) -> BuildTables {
 }
 
 /// The lengths of a build's areas in the order of the call; unless it says, with room to spare.
-pub fn areas_of_chunks(chunks: &Chunks) -> [usize; 8] {
+pub fn areas_of_chunks(chunks: &Chunks) -> [usize; 9] {
     let Chunks { build, damage } = chunks;
     let spare = build.modules.len() + SPARE;
     let areas = match damage.areas {
@@ -187,7 +187,7 @@ pub fn areas_of_chunks(chunks: &Chunks) -> [usize; 8] {
 }
 
 /// The tables of a build without its damage, and areas of these lengths.
-fn undamaged(build: &Build, areas: [usize; 8]) -> BuildTables {
+fn undamaged(build: &Build, areas: [usize; 9]) -> BuildTables {
     let modules = || build.modules.iter();
     let records = || build.records.iter();
     let (ids, offsets) = slice_of(modules().map(|module| module.id.as_slice()));
@@ -248,10 +248,10 @@ fn from_one(numbers: impl Iterator<Item = u32>) -> Vec<u32> {
 fn areas_of(
     [chunk_of, next_of, records, scratch]: [usize; 4],
     apart: Option<&[usize]>,
-) -> [usize; 8] {
-    let [first, group, name, size, bits] =
-        lengths(apart, [records, records, records, records, 4 * records]);
-    [chunk_of, next_of, first, group, name, size, bits, scratch]
+) -> [usize; 9] {
+    let [first, group, name, size, bits, mark] =
+        lengths(apart, [records, records, records, records, 4 * records, records]);
+    [chunk_of, next_of, first, group, name, size, bits, mark, scratch]
 }
 
 /// The lengths that a case gives, or these.

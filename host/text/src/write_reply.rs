@@ -2,7 +2,7 @@
 
 use std::fmt::{Display, Formatter, Result};
 
-use crate::{Answer, Chunk, ChunkList, Reply, write_case::Bytes};
+use crate::{Answer, Chunk, ChunkList, CutOutcome, Reply, write_case::Bytes};
 
 impl Display for Reply {
     /// Whole lines, the last one ended too.
@@ -21,8 +21,9 @@ impl Display for Reply {
 fn leaf(f: &mut Formatter<'_>, answer: &Answer) -> Result {
     match answer {
         Answer::Sim(value) => write!(f, " {value}")?,
-        Answer::Cut(None) => write!(f, " none")?,
-        Answer::Cut(Some(cut)) => {
+        Answer::Cut(CutOutcome::FewerThanTwo) => write!(f, " none fewer-than-two")?,
+        Answer::Cut(CutOutcome::NoneAllowed) => write!(f, " none not-allowed")?,
+        Answer::Cut(CutOutcome::At(cut)) => {
             let (left, right) = (cut.left, cut.right);
             write!(f, " {} {:016x} {:016x}", cut.index, left.to_bits(), right.to_bits())?;
             write!(f, " {left} {right}")?;
@@ -57,6 +58,7 @@ fn chunk(f: &mut Formatter<'_>, chunk: &Chunk) -> Result {
     let [a, b, c, d] = chunk.bits;
     write!(f, "c {} {} {}", chunk.chunk, chunk.group, chunk.name)?;
     write!(f, " {:016x} {} {a:x} {b:x} {c:x} {d:x}", chunk.size.to_bits(), chunk.size)?;
+    write!(f, " {}", chunk.mark)?;
     chunk.modules.iter().try_for_each(|module| write!(f, " {module}"))?;
     writeln!(f)
 }

@@ -89,6 +89,41 @@ fn a_name_has_the_length_that_is_said() {
 }
 
 #[test]
+fn a_none_says_why() {
+    let message = |text: &str| read_replies(text).expect_err("the none is bad").to_string();
+    assert_eq!(
+        message("cut a none\n"),
+        "line 1: the line ends where fewer-than-two or not-allowed is expected"
+    );
+    assert_eq!(
+        message("cut a none few\n"),
+        "line 1: none is `fewer-than-two` or `not-allowed`, not `few`"
+    );
+    assert_eq!(
+        message("cut a none not-allowed 1\n"),
+        "line 1: nothing more is expected, but `1` follows"
+    );
+}
+
+#[test]
+fn a_chunk_has_its_mark() {
+    let message = |line: &str| {
+        let text = format!("chunks a 1\nc 0 0 0 0000000000000000 0 1 0 0 0{line}\nm 1\nend\n");
+        read_replies(&text).map_err(|error| error.to_string())
+    };
+    assert!(message(" 2 0").is_ok());
+    assert_eq!(message(" 3 0"), Err("line 2: MARK is 0, 1 or 2, not 3".into()));
+    assert_eq!(message(""), Err("line 2: the line ends where MARK is expected".into()));
+    assert_eq!(message(" 256 0"), Err("line 2: MARK is no decimal number in range: `256`".into()));
+}
+
+#[test]
+fn a_build_says_the_length_of_each_record_area() {
+    let text = "chunks a 0 0 0 0 0 0\no - - - - - -\nrecords 0 0 0 0 0\nend\n";
+    assert_eq!(message(text), "line 3: the line ends where LENGTH is expected");
+}
+
+#[test]
 fn a_long_word_is_shortened() {
     let long = "7".repeat(10_000_000);
     let shown = format!("{}... (10000000 bytes)", &long[..60]);

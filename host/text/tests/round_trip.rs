@@ -38,7 +38,7 @@ len answers 3
 len threshold 0
 count g 65
 areas 2 2 2 70
-records 2 1 2 2 7
+records 2 1 2 2 7 3
 end
 ";
 
@@ -47,7 +47,8 @@ const REPLIES: &str = "\
 sim empty 0
 filter limits 1
 cut damaged refused 1
-cut none none
+cut single none fewer-than-two
+cut several none not-allowed
 cut some 2 403e000000000000 403e000000000000 30 30
 merge joins 1:0:0:0:0:0 1:105:3:0:0:8000000000000000
 merge absent
@@ -55,9 +56,11 @@ capture chain 100
 name plain 1 61
 name nothing 0 .
 name damaged refused 1
-chunks whole 1
-c 7 0 0 4044000000000000 40 1 0 0 0 0
-m 8 0
+chunks whole 3
+c 7 0 0 4044000000000000 40 1 0 0 0 0 0
+c 8 0 0 4024000000000000 10 1 0 0 0 1 1
+c 9 1 0 4034000000000000 20 1 0 0 0 2 3 2
+m 8 9 10 10
 end
 chunks refused refused 13
 ";
@@ -93,7 +96,7 @@ fn damage_changes_the_tables_and_not_the_text() {
     assert_eq!(tables.offsets, [0, 1, 3]);
     assert_eq!(tables.dep_module, [u32::MAX, 1]);
     assert_eq!(tables.group_lengths, [1, 1, 1, 1, 1, 1, 1, 1, 0]);
-    assert_eq!(tables.areas, [2, 2, 2, 1, 2, 2, 7, 70]);
+    assert_eq!(tables.areas, [2, 2, 2, 1, 2, 2, 7, 3, 70]);
 }
 
 #[test]

@@ -80,6 +80,7 @@ areasIn s =
             name-of = a .name-of .now;
             size-of = a .size-of .now;
             bits-of = a .bits-of .now;
+            mark-of = a .mark-of .now;
           };
       scratch = a .scratch .now;
     }
@@ -88,9 +89,8 @@ areasIn s =
 
 abbrev start : tie.After-test-input → tie.Start
 start t =
-    t .before .before .before .before .before .before .before .before .before .before .before .before .before .before
+    t .before .before .before .before .before .before .before .before .before .before .before .before .before .before .before .before .before .before
     .before .before .before .before .before .before .before .before .before .before .before .before .before .before .before
-    .before .before .before
 
 -- the modules in execution order, and their ranks
 abbrev orderOf : tie.After-test-input → List ℕ
@@ -190,7 +190,7 @@ slice-aggregate-run-tested-2 c =
 
 run-tested-requires : tie.Need-run-tested-requires
 run-tested-requires c κs =
-    let k = c .before .before .before .before .before .before .before .before .before .before in
+    let k = c .before .before .before .before .before .before .before .before .before .before .before in
     let told = k .before .before .before in
     runnable (build told) (areas told) (count told) (passed told) (none k)
 
@@ -224,11 +224,14 @@ same-length-7 c = search needs
 same-length-8 : tie.Need-same-length-8
 same-length-8 c = search needs
 
+same-length-9 : tie.Need-same-length-9
+same-length-9 c = search needs
+
 returns-3 : tie.Need-returns-3
 returns-3 c =
-    let ran = c .before .before .before .before .before .before .before .before .before .before .before .before .before .before
-    .before .before in
-    let k = ran .before .before .before .before .before .before .before .before .before .before .before in
+    let ran = c .before .before .before .before .before .before .before .before .before .before .before .before .before .before .before .before .before
+    .before in
+    let k = ran .before .before .before .before .before .before .before .before .before .before .before .before in
     let told = k .before .before .before in
     answers (build told) (areas told) (count told) (passed told) (none k) (ran .run-tested .result) _
     (ran .run-tested .ensures .of-build (build told) (input-fits (build told) (areas told) (count told) (passed told)))
@@ -258,4 +261,5 @@ split-spec =
     same-length-6
     same-length-7
     same-length-8
+    same-length-9
     returns-3)

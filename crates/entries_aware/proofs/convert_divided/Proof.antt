@@ -19,26 +19,26 @@ use Rattle.entries_aware.proofs.convert_divided.Tie as tie
 abbrev tables : List ℕ → List ℕ → List ℕ → List ℕ → Tables
 tables bytes offsets sizes rank = record { bytes = bytes; offsets = offsets; sizes = sizes; rank = rank }
 
-abbrev areas : List ℕ → List ℕ → List ℕ → List Float → List ℕ → Work
-areas chunk-of group-of name-of size-of bits-of =
-    record { chunk-of = chunk-of; group-of = group-of; name-of = name-of; size-of = size-of; bits-of = bits-of }
+abbrev areas : List ℕ → List ℕ → List ℕ → List Float → List ℕ → List ℕ → Work
+areas chunk-of group-of name-of size-of bits-of mark-of =
+    record { chunk-of = chunk-of; group-of = group-of; name-of = name-of; size-of = size-of; bits-of = bits-of; mark-of = mark-of }
 
 abbrev Inv-loop : tie.InvT-loop
-Inv-loop settings group name set divided kind-bits sizes bits bytes offsets rank number at members₀ chunk-of₀ group-of₀ name-of₀ size-of₀ bits-of₀
-    list₀ made₀ from₀ members chunk-of group-of name-of size-of bits-of list made from =
+Inv-loop settings group name set divided kind-bits sizes bits bytes offsets rank number at members₀ chunk-of₀ group-of₀ name-of₀ size-of₀ bits-of₀ mark-of₀
+    list₀ made₀ from₀ members chunk-of group-of name-of size-of bits-of mark-of list made from =
     Walked settings group name (tables bytes offsets sizes rank) bits set kind-bits divided (number .0) at
-    (areas chunk-of₀ group-of₀ name-of₀ size-of₀ bits-of₀) from made (areas chunk-of group-of name-of size-of bits-of)
+    (areas chunk-of₀ group-of₀ name-of₀ size-of₀ bits-of₀ mark-of₀) from made (areas chunk-of group-of name-of size-of bits-of mark-of)
     × (length list ≡ 4096) × (length members ≡ length members₀)
 
 abbrev μ-loop : tie.MeasureT-loop
-μ-loop settings group name set divided kind-bits sizes bits bytes offsets rank number at members₀ chunk-of₀ group-of₀ name-of₀ size-of₀ bits-of₀
-    list₀ made₀ from₀ members chunk-of group-of name-of size-of bits-of list made from =
+μ-loop settings group name set divided kind-bits sizes bits bytes offsets rank number at members₀ chunk-of₀ group-of₀ name-of₀ size-of₀ bits-of₀ mark-of₀
+    list₀ made₀ from₀ members chunk-of group-of name-of size-of bits-of mark-of list made from =
     length divided - from
 
 -- ---- what is known at a turn of the loop, and at the end of its run
 
 abbrev start : tie.At-loop Inv-loop μ-loop → tie.Start Inv-loop μ-loop
-start c = c .before .before .before .before .before .before .before .before .before .before .before .before .before .before .before
+start c = c .before .before .before .before .before .before .before .before .before .before .before .before .before .before .before .before
 
 -- the loop's invariant for other ends of the run
 abbrev WalkedTo : tie.At-loop Inv-loop μ-loop → ℕ → ℕ → Work → Type 0
@@ -46,7 +46,7 @@ WalkedTo c from made now =
     let a = start c .args in
     Walked (a .settings) (a .group) (a .name) (tables (a .bytes .now) (a .offsets .now) (a .sizes .now) (a .rank .now)) (a .bits .now) (a .set .now)
     (a .kind-bits .now) (a .divided .now) (a .number .0) (a .at)
-    (areas (a .chunk-of .now) (a .group-of .now) (a .name-of .now) (a .size-of .now) (a .bits-of .now)) from made now
+    (areas (a .chunk-of .now) (a .group-of .now) (a .name-of .now) (a .size-of .now) (a .bits-of .now) (a .mark-of .now)) from made now
 
 number-small : (c : tie.At-loop Inv-loop μ-loop) → start c .args .number .0 + c .loop .made ≤ 73727
 number-small c = let s = start c in let a = s .args in walk-number (a .settings) (a .group) (a .name) (s .pre) (c .loop .inv .0)
@@ -118,13 +118,14 @@ list-long c =
 -- ---- the subgroup, turned
 
 abbrev stored : tie.After-convert-item-to-chunks Inv-loop μ-loop → tie.After-store-starts Inv-loop μ-loop
-stored c = c .before .before .before .before .before .before .before .before .before .before
+stored c = c .before .before .before .before .before .before .before .before .before .before .before
 
 abbrev after : tie.After-convert-item-to-chunks Inv-loop μ-loop → Work
 after c =
     let v = c .convert-item-to-chunks .last in
     areas (v .1 .1 .1 .1 .1 .1 .1 .1 .1 .1 .1 .0) (v .1 .1 .1 .1 .1 .1 .1 .1 .1 .1 .1 .1 .0) (v .1 .1 .1 .1 .1 .1 .1 .1 .1 .1 .1 .1 .1 .0)
-    (v .1 .1 .1 .1 .1 .1 .1 .1 .1 .1 .1 .1 .1 .1 .0) (v .1 .1 .1 .1 .1 .1 .1 .1 .1 .1 .1 .1 .1 .1 .1 .0)
+    (v .1 .1 .1 .1 .1 .1 .1 .1 .1 .1 .1 .1 .1 .1 .0) (v .1 .1 .1 .1 .1 .1 .1 .1 .1 .1 .1 .1 .1 .1 .1 .0) (v .1 .1 .1 .1 .1 .1 .1 .1 .1 .1 .1 .1 .1 .1 .1
+    .1 .0)
 
 turned : (c : tie.After-convert-item-to-chunks Inv-loop μ-loop)
     → WalkedTo (looped (ended (stored c))) (ended (stored c) .run-end .result) (looped (ended (stored c)) .loop .made + c .convert-item-to-chunks .result)
@@ -136,20 +137,21 @@ turned c =
     let s = start l in
     let a = s .args in
     let k = c .convert-item-to-chunks .kept in
-    let kept : SameLengths (after c) (areas (l .loop .chunk-of) (l .loop .group-of) (l .loop .name-of) (l .loop .size-of) (l .loop .bits-of)) =
+    let kept : SameLengths (after c) (areas (l .loop .chunk-of) (l .loop .group-of) (l .loop .name-of) (l .loop .size-of) (l .loop .bits-of) (l .loop .mark-of)) =
     record {
       chunk-of = k .1 .1 .1 .1 .1 .1 .1 .1 .1 .1 .1 .0;
       group-of = k .1 .1 .1 .1 .1 .1 .1 .1 .1 .1 .1 .1 .0;
       name-of = k .1 .1 .1 .1 .1 .1 .1 .1 .1 .1 .1 .1 .1 .0;
       size-of = k .1 .1 .1 .1 .1 .1 .1 .1 .1 .1 .1 .1 .1 .1 .0;
       bits-of = k .1 .1 .1 .1 .1 .1 .1 .1 .1 .1 .1 .1 .1 .1 .1 .0;
+      mark-of = k .1 .1 .1 .1 .1 .1 .1 .1 .1 .1 .1 .1 .1 .1 .1 .1 .0;
     } in
     walk-more (a .settings) (a .group) (a .name) (s .pre) (l .loop .inv .0) (e .run-end .ensures) (written w) (written-is w)
     (w .before .before .before .row .result) (w .before .before .before .row .ensures) kept (c .convert-item-to-chunks .ensures .0)
 
 loop-holds : tie.Need-loop-holds Inv-loop μ-loop
 loop-holds c =
-    let s = c .before .before .before .before .before .before .before .before .before .before .before .before .before .before in
+    let s = c .before .before .before .before .before .before .before .before .before .before .before .before .before .before .before in
     let a = s .args in
     (walk-none (a .settings) (a .group) (a .name) (s .pre), refl, refl)
 
@@ -209,15 +211,14 @@ store-starts-requires c κs =
 array-share-prefix-list : tie.Need-array-share-prefix-list Inv-loop μ-loop
 array-share-prefix-list c = omega (arith, run-small (ended (c .before)), list-long (c .before))
 
-slice-aggregate-convert-item-to-chunks :
-    tie.Need-slice-aggregate-convert-item-to-chunks Inv-loop μ-loop
+slice-aggregate-convert-item-to-chunks : tie.Need-slice-aggregate-convert-item-to-chunks Inv-loop μ-loop
 slice-aggregate-convert-item-to-chunks c = sym (written-long (c .before .before))
 
-cast-t34 : tie.Need-cast-t34 Inv-loop μ-loop
-cast-t34 c = omega (arith, number-small (c .before .before .before .before .before .before .before .before .before))
+cast-t35 : tie.Need-cast-t35 Inv-loop μ-loop
+cast-t35 c = omega (arith, number-small (c .before .before .before .before .before .before .before .before .before))
 
-add-t33 : tie.Need-add-t33 Inv-loop μ-loop
-add-t33 c = omega (arith, number-small (c .before .before .before .before .before .before .before .before .before .before))
+add-t34 : tie.Need-add-t34 Inv-loop μ-loop
+add-t34 c = omega (arith, number-small (c .before .before .before .before .before .before .before .before .before .before))
 
 add-convert-item-to-chunks : tie.Need-add-convert-item-to-chunks Inv-loop μ-loop
 add-convert-item-to-chunks c =
@@ -226,7 +227,7 @@ add-convert-item-to-chunks c =
 
 convert-item-to-chunks-requires : tie.Need-convert-item-to-chunks-requires Inv-loop μ-loop
 convert-item-to-chunks-requires c κs =
-    let w = c .before .before .before .before .before .before .before .before .before in
+    let w = c .before .before .before .before .before .before .before .before .before .before in
     let e = ended w in
     let l = looped e in
     let s = start l in
@@ -240,19 +241,19 @@ convert-item-to-chunks-requires c κs =
 
 add-made : tie.Need-add-made Inv-loop μ-loop
 add-made c =
-    let v = c .before .before .before .before .before .before .before .before .before .before .before .before in
+    let v = c .before .before .before .before .before .before .before .before .before .before .before .before .before .before in
     let s = start (looped (ended (stored v))) in
     let a = s .args in
     omega (arith, walk-number (a .settings) (a .group) (a .name) (s .pre) (turned v))
 
 loop-less : tie.Need-loop-less Inv-loop μ-loop
 loop-less c =
-    let e = ended (stored (c .before .before .before .before .before .before .before .before .before .before .before .before)) in
+    let e = ended (stored (c .before .before .before .before .before .before .before .before .before .before .before .before .before .before)) in
     omega (arith, e .run-end .ensures .some, e .run-end .ensures .within)
 
 loop-again : tie.Need-loop-again Inv-loop μ-loop
 loop-again c =
-    let v = c .before .before .before .before .before .before .before .before .before .before .before .before in
+    let v = c .before .before .before .before .before .before .before .before .before .before .before .before .before .before in
     (turned v, list-long (stored v), v .convert-item-to-chunks .kept .1 .1 .1 .1 .1 .1 .1 .1 .1 .1 .0 ∙ looped (ended (stored v)) .loop .inv .2)
 
 same-length : tie.Need-same-length Inv-loop μ-loop
@@ -272,6 +273,9 @@ same-length-5 c = c .before .loop .inv .0 .lengths .size-of
 
 same-length-6 : tie.Need-same-length-6 Inv-loop μ-loop
 same-length-6 c = c .before .loop .inv .0 .lengths .bits-of
+
+same-length-7 : tie.Need-same-length-7 Inv-loop μ-loop
+same-length-7 c = c .before .loop .inv .0 .lengths .mark-of
 
 returns : tie.Need-returns Inv-loop μ-loop
 returns c =
@@ -301,8 +305,8 @@ convert-divided-spec =
     store-starts-requires
     array-share-prefix-list
     slice-aggregate-convert-item-to-chunks
-    cast-t34
-    add-t33
+    cast-t35
+    add-t34
     add-convert-item-to-chunks
     convert-item-to-chunks-requires
     add-made
@@ -314,4 +318,5 @@ convert-divided-spec =
     same-length-4
     same-length-5
     same-length-6
+    same-length-7
     returns)

@@ -18,7 +18,7 @@ few s = s .pre .1 .0
 
 -- where the division is called
 abbrev asked : tie.After-divided → tie.Start
-asked c = c .before .before .before .before .before .before .before .before .before .before .before .before .before .before
+asked c = c .before .before .before .before .before .before .before .before .before .before .before .before .before .before .before
 
 abbrev start : tie.After-process-entries-aware-group → tie.Start
 start c = asked (c .before)
@@ -39,8 +39,7 @@ slice-aggregate-process-entries-aware-group c = search needs
 array-borrow-prefix-divided : tie.Need-array-borrow-prefix-divided
 array-borrow-prefix-divided c = search needs
 
-slice-aggregate-process-entries-aware-group-2 :
-    tie.Need-slice-aggregate-process-entries-aware-group-2
+slice-aggregate-process-entries-aware-group-2 : tie.Need-slice-aggregate-process-entries-aware-group-2
 slice-aggregate-process-entries-aware-group-2 c = sym (length-take-le _ _ (few (asked c)))
 
 process-entries-aware-group-requires : tie.Need-process-entries-aware-group-requires
@@ -79,7 +78,7 @@ part-convert-divided-end c = search needs
 
 convert-divided-requires : tie.Need-convert-divided-requires
 convert-divided-requires c κs =
-    let p = c .before .before .before .before .before .before .before .before .before .before in
+    let p = c .before .before .before .before .before .before .before .before .before .before .before in
     let s = start p in
     let a = s .args in
     let q = p .process-entries-aware-group in
@@ -115,9 +114,15 @@ same-length-5 c = search needs
 same-length-6 : tie.Need-same-length-6
 same-length-6 c = search needs
 
+same-length-7 : tie.Need-same-length-7
+same-length-7 c = search needs
+
 returns : tie.Need-returns
-returns c =
-    (c .before .before .before .before .before .before .before .before .before .before .before .before .convert-divided .ensures, same-length c)
+returns c = (
+  c .before .before .before .before .before .before .before .before .before .before .before .before .before
+      .before .convert-divided .ensures,
+  same-length c,
+)
 
 pub convert-few-spec : {M : Type 1} → statement M
 convert-few-spec =
@@ -142,4 +147,5 @@ convert-few-spec =
     same-length-4
     same-length-5
     same-length-6
+    same-length-7
     returns)

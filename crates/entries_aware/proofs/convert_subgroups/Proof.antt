@@ -5,8 +5,8 @@ use Rattle.entries_aware.proofs.convert_subgroups.Tie as tie
 
 convert-few-requires : tie.Need-convert-few-requires
 convert-few-requires c κs =
-    let decided = c .before .before .before .before .before .before in
-    let p = decided .before .before .before .before .before .before .before .before .before .before .before .before .before .pre in
+    let decided = c .before .before .before .before .before .before .before in
+    let p = decided .before .before .before .before .before .before .before .before .before .before .before .before .before .before .pre in
     (p .0, (decided .if1 .taken, p .1 .0, p .1 .1, p .1 .2))
 
 same-length : tie.Need-same-length
@@ -51,6 +51,12 @@ same-length-11 c = search needs
 same-length-12 : tie.Need-same-length-12
 same-length-12 c = search needs
 
+same-length-13 : tie.Need-same-length-13
+same-length-13 c = search needs
+
+same-length-14 : tie.Need-same-length-14
+same-length-14 c = search needs
+
 returns-2 : tie.Need-returns-2
 returns-2 c = search needs
 
@@ -65,12 +71,14 @@ convert-subgroups-spec =
     same-length-4
     same-length-5
     same-length-6
+    same-length-7
     returns
     convert-many-requires
-    same-length-7
     same-length-8
     same-length-9
     same-length-10
     same-length-11
     same-length-12
+    same-length-13
+    same-length-14
     returns-2)

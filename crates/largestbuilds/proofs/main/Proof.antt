@@ -8,7 +8,7 @@ abbrev Inv-loop : tie.InvT-loop
 Inv-loop change₀ change = Unit {0}
 
 abbrev μ-loop : tie.MeasureT-loop
-μ-loop change₀ change = 29 - change
+μ-loop change₀ change = 30 - change
 
 loop-holds : tie.Need-loop-holds Inv-loop μ-loop
 loop-holds c = search needs

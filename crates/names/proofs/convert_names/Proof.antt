@@ -20,24 +20,25 @@ use Rattle.names.proofs.convert_names.Tie as tie
 
 abbrev Inv-loop : tie.InvT-loop
 Inv-loop settings group matched n flags first dependency next order place sizes bits bytes offsets rank number at closed₀ marks₀ followed₀ set₀
-    scratch₀ chunk-of₀ group-of₀ name-of₀ size-of₀ bits-of₀ closing made₀ from₀ closed marks followed set scratch chunk-of group-of name-of size-of
-    bits-of made from =
+    scratch₀ chunk-of₀ group-of₀ name-of₀ size-of₀ bits-of₀ mark-of₀ closing made₀ from₀ closed marks followed set scratch chunk-of group-of name-of size-of
+    bits-of mark-of made from =
     NamesDone (record { bytes = bytes; offsets = offsets; sizes = sizes; rank = rank })
     (record { flags = flags; first = first; dependency = dependency; next = next; order = order }) bits settings group matched (number .0) at
-    (record { chunk-of = chunk-of₀; group-of = group-of₀; name-of = name-of₀; size-of = size-of₀; bits-of = bits-of₀ }) from made
-    (record { chunk-of = chunk-of; group-of = group-of; name-of = name-of; size-of = size-of; bits-of = bits-of })
+    (record { chunk-of = chunk-of₀; group-of = group-of₀; name-of = name-of₀; size-of = size-of₀; bits-of = bits-of₀; mark-of = mark-of₀ }) from made
+    (record { chunk-of = chunk-of; group-of = group-of; name-of = name-of; size-of = size-of; bits-of = bits-of; mark-of = mark-of })
     × (marks ≡ replicate (length flags) 0) × (length set ≡ length set₀) × (length scratch ≡ length scratch₀) × (followed ≡ unfollowed)
     × Closed flags first dependency next closed chunk-of
 
 abbrev μ-loop : tie.MeasureT-loop
 μ-loop settings group matched n flags first dependency next order place sizes bits bytes offsets rank number at closed₀ marks₀ followed₀ set₀
-    scratch₀ chunk-of₀ group-of₀ name-of₀ size-of₀ bits-of₀ closing made₀ from₀ closed marks followed set scratch chunk-of group-of name-of size-of
-    bits-of made from = length matched - from
+    scratch₀ chunk-of₀ group-of₀ name-of₀ size-of₀ bits-of₀ mark-of₀ closing made₀ from₀ closed marks followed set scratch chunk-of group-of name-of size-of
+    bits-of mark-of made from = length matched - from
 
 -- ---- what is known in a turn: at its start, with the end of the run, with the set, and with its chunks
 
 abbrev start : tie.At-loop Inv-loop μ-loop → tie.Start Inv-loop μ-loop
 start l = l .before .before .before .before .before .before .before .before .before .before .before .before .before .before .before .before .before .before
+    .before
     .before .before .before .before .before .before .before .before .before .before
 
 -- whether sets of the group can be closed
@@ -52,6 +53,7 @@ run k = k .before .before .before .before .before .before .before
 
 abbrev set : tie.After-convert-set Inv-loop μ-loop → tie.After-build-left Inv-loop μ-loop
 set k = k .before .before .before .before .before .before .before .before .before .before .before .before .before .before .before .before .before .before
+    .before
 
 abbrev area : tie.After-build-left Inv-loop μ-loop → List ℕ
 area k = k .build-left .last .1 .1 .1 .1 .1 .1 .1 .1 .1 .1 .1 .1 .1 .0
@@ -100,7 +102,8 @@ can-close-requires c κs = search needs
 
 loop-holds : tie.Need-loop-holds Inv-loop μ-loop
 loop-holds c =
-    let s = c .before .before .before .before .before .before .before .before .before .before .before .before .before .before .before .before .before .before
+    let s = c .before .before .before .before .before .before .before .before .before .before .before .before .before .before .before .before .before
+    .before .before
     .before .before .before .before .before .before .before .before .before in
     let room = s .pre .1 .0 in (
       names-start,
@@ -167,14 +170,14 @@ slice-reshare-prefix-convert-set c = count-fits (c .before .before .before .befo
 slice-aggregate-convert-set : tie.Need-slice-aggregate-convert-set Inv-loop μ-loop
 slice-aggregate-convert-set c = sym (length-take-le _ _ (count-fits (c .before .before .before .before .before .before .before .before .before .before)))
 
-cast-t57 : tie.Need-cast-t57 Inv-loop μ-loop
-cast-t57 c =
+cast-t58 : tie.Need-cast-t58 Inv-loop μ-loop
+cast-t58 c =
     let l = c .before .before .before .before .before .before .before .before .before .before .before .before .before .before .before .before .before .before
     .before in
     omega (arith, number-now (start l .pre .0) (l .loop .inv .0))
 
-add-t58 : tie.Need-add-t58 Inv-loop μ-loop
-add-t58 c =
+add-t59 : tie.Need-add-t59 Inv-loop μ-loop
+add-t59 c =
     let l = c .before .before .before .before .before .before .before .before .before .before .before .before .before .before .before .before .before .before
     .before .before in
     omega (arith, number-now (start l .pre .0) (l .loop .inv .0))
@@ -187,7 +190,8 @@ add-convert-set c =
 
 convert-set-requires : tie.Need-convert-set-requires Inv-loop μ-loop
 convert-set-requires c κs =
-    let k = c .before .before .before .before .before .before .before .before .before .before .before .before .before .before .before .before .before in
+    let k = c .before .before .before .before .before .before .before .before .before .before .before .before .before .before .before .before .before
+    .before in
     let l = head (run k) in
     let s = start l in
     let room = s .pre .1 .0 in
@@ -199,7 +203,7 @@ convert-set-requires c κs =
 
 add-made : tie.Need-add-made Inv-loop μ-loop
 add-made c =
-    let k = c .before .before .before .before .before .before .before .before .before .before .before .before in
+    let k = c .before .before .before .before .before .before .before .before .before .before .before .before .before .before in
     let l = head (run (set k)) in
     let v = l .loop .inv in
     let b = set k .build-left in
@@ -212,16 +216,18 @@ add-made c =
 slice-reshare-prefix-close-set : tie.Need-slice-reshare-prefix-close-set Inv-loop μ-loop
 slice-reshare-prefix-close-set c =
     count-fits (c .before .before .before .before .before .before .before .before .before .before .before .before .before .before .before .before .before
+    .before .before .before
     .before .before .before .before .before .before .before .before .before .before .before .before .before)
 
 slice-aggregate-close-set : tie.Need-slice-aggregate-close-set Inv-loop μ-loop
 slice-aggregate-close-set c =
     sym (length-take-le _ _ (count-fits (c .before .before .before .before .before .before .before .before .before .before .before .before .before .before
+    .before .before .before
     .before .before .before .before .before .before .before .before .before .before .before .before .before .before .before .before .before)))
 
 close-set-requires : tie.Need-close-set-requires Inv-loop μ-loop
 close-set-requires c κs =
-    let k = c .before .before .before .before .before .before .before .before .before .before .before .before .before .before .before in
+    let k = c .before .before .before .before .before .before .before .before .before .before .before .before .before .before .before .before .before in
     let l = head (run (set k)) in
     let p = start l .pre .0 in
     let v = l .loop .inv in
@@ -243,13 +249,14 @@ close-set-requires c κs =
 loop-less : tie.Need-loop-less Inv-loop μ-loop
 loop-less c =
     let e = run (c .before .before .before .before .before .before .before .before .before .before .before .before .before .before .before .before .before
-    .before .before .before .before .before .before .before .before .before .before .before .before .before .before .before .before .before .before .before)
-    .run-end .ensures in
+    .before .before .before .before .before .before .before .before .before .before .before .before .before .before .before .before .before .before .before
+    .before .before .before) .run-end .ensures in
     omega (arith, e .some, e .within)
 
 loop-again : tie.Need-loop-again Inv-loop μ-loop
 loop-again c =
-    let k = c .before .before .before .before .before .before .before .before .before .before .before .before .before .before .before .before .before .before
+    let k = c .before .before .before .before .before .before .before .before .before .before .before .before .before .before .before .before .before
+    .before .before .before
     in
     let l = head (run (set k)) in
     let s = start l in
@@ -259,7 +266,14 @@ loop-again c =
     let long = live-bytes (s .args .flags .now) (l .loop .closed) (by l .can-close .result) (v .5 .bytes) in (
       names-next (s .pre .0) (v .0) (run (set k) .run-end .ensures) (by l .can-close .result) (by l .can-close .ensures) (v .5) (b .ensures .0) (k
           .convert-set .ensures .0)
-          (record { chunk-of = same .0; group-of = same .1 .0; name-of = same .1 .1 .0; size-of = same .1 .1 .1 .0; bits-of = same .1 .1 .1 .1 .0 }),
+          (record {
+            chunk-of = same .0;
+            group-of = same .1 .0;
+            name-of = same .1 .1 .0;
+            size-of = same .1 .1 .1 .0;
+            bits-of = same .1 .1 .1 .1 .0;
+            mark-of = same .1 .1 .1 .1 .1 .0;
+          }),
       b .ensures .1 .0 ∙ ap (λ (k : ℕ). replicate k 0) long,
       b .kept .1 .1 .1 .1 .1 .1 .1 .1 .1 .1 .1 .1 .1 .0 ∙ v .2,
       k .convert-set .ensures .1 ∙ scratch-back (set k),
@@ -299,6 +313,9 @@ same-length-9 c = c .before .loop .inv .0 .lengths .size-of
 same-length-10 : tie.Need-same-length-10 Inv-loop μ-loop
 same-length-10 c = c .before .loop .inv .0 .lengths .bits-of
 
+same-length-11 : tie.Need-same-length-11 Inv-loop μ-loop
+same-length-11 c = c .before .loop .inv .0 .lengths .mark-of
+
 returns : tie.Need-returns Inv-loop μ-loop
 returns c = let v = c .before .loop .inv in (names-turned (v .0) (c .loop-test .left), (marks-kept (c .before), v .2, v .3, v .4, v .5))
 
@@ -323,8 +340,8 @@ convert-names-spec =
     shared-slice-read-convert-set
     slice-reshare-prefix-convert-set
     slice-aggregate-convert-set
-    cast-t57
-    add-t58
+    cast-t58
+    add-t59
     add-convert-set
     convert-set-requires
     add-made
@@ -343,4 +360,5 @@ convert-names-spec =
     same-length-8
     same-length-9
     same-length-10
+    same-length-11
     returns)

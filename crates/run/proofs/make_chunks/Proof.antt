@@ -19,7 +19,7 @@ use Rattle.run.proofs.make_chunks.Tie as tie
 
 abbrev start : tie.After-turns → tie.Start
 start c =
-    let shared = c .before .before .before .before .before .before .before in
+    let shared = c .before .before .before .before .before .before .before .before in
     shared .before .before .before .before .before .before .before .before .before .before .before .before .before
 
 abbrev entry : tie.After-into-priority-sorted-groups → tie.Start
@@ -54,6 +54,7 @@ areas s =
       name-of = s .args .name-of .now;
       size-of = s .args .size-of .now;
       bits-of = s .args .bits-of .now;
+      mark-of = s .args .mark-of .now;
     }
 
 -- the areas with the chunk numbers cleared
@@ -69,6 +70,7 @@ cleared k =
       name-of = s .args .name-of .now;
       size-of = s .args .size-of .now;
       bits-of = s .args .bits-of .now;
+      mark-of = s .args .mark-of .now;
     }
 
 -- the table of turns, and what the first call writes there
@@ -99,7 +101,7 @@ fresh k b fits room =
 
 array-borrow-prefix-turns : tie.Need-array-borrow-prefix-turns
 array-borrow-prefix-turns c =
-    let shared = c .before .before .before .before .before .before in
+    let shared = c .before .before .before .before .before .before .before in
     making-groups (shared .before .before .before .before .before .before .before .before .before .before .before .before .before .pre)
 
 slice-aggregate-into-priority-sorted-groups : tie.Need-slice-aggregate-into-priority-sorted-groups
@@ -130,7 +132,7 @@ slice-aggregate-convert-groups-to-chunks c =
 
 convert-groups-to-chunks-requires : tie.Need-convert-groups-to-chunks-requires
 convert-groups-to-chunks-requires c κs =
-    let clearing = c .before .before .before .before .before .before .before .before .before in
+    let clearing = c .before .before .before .before .before .before .before .before .before .before in
     let sorting = clearing .before .before .before in
     let s = entry sorting in
     let p = s .pre in (
@@ -157,10 +159,13 @@ same-length-5 c = search needs
 same-length-6 : tie.Need-same-length-6
 same-length-6 c = search needs
 
+same-length-7 : tie.Need-same-length-7
+same-length-7 c = search needs
+
 returns : tie.Need-returns
 returns c =
-    let converting = c .before .before .before .before .before .before .before .before .before .before .before .before in
-    let clearing = converting .before .before .before .before .before .before .before .before .before .before in
+    let converting = c .before .before .before .before .before .before .before .before .before .before .before .before .before .before in
+    let clearing = converting .before .before .before .before .before .before .before .before .before .before .before in
     let sorting = clearing .before .before .before in
     let s = entry sorting in
     record {
@@ -189,4 +194,5 @@ make-chunks-spec =
     same-length-4
     same-length-5
     same-length-6
+    same-length-7
     returns)

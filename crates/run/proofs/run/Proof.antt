@@ -18,7 +18,7 @@ use Rattle.run.proofs.run.Tie as tie
 
 abbrev start : tie.After-order → tie.Start
 start c =
-    let shared = c .before .before .before .before .before .before .before .before .before in
+    let shared = c .before .before .before .before .before .before .before .before .before .before in
     shared .before .before .before .before .before .before .before .before .before .before .before .before .before
 
 abbrev entry : tie.After-keep-eligible → tie.Start
@@ -56,6 +56,7 @@ areas s =
             name-of = s .args .name-of .now;
             size-of = s .args .size-of .now;
             bits-of = s .args .bits-of .now;
+            mark-of = s .args .mark-of .now;
           };
       scratch = s .args .scratch .now;
     }
@@ -77,6 +78,7 @@ made k =
       name-of = l .1 .1 .1 .1 .1 .1 .1 .1 .1 .1 .1 .1 .1 .1 .1 .1 .1 .1 .1 .1 .1 .0;
       size-of = l .1 .1 .1 .1 .1 .1 .1 .1 .1 .1 .1 .1 .1 .1 .1 .1 .1 .1 .1 .1 .1 .1 .0;
       bits-of = l .1 .1 .1 .1 .1 .1 .1 .1 .1 .1 .1 .1 .1 .1 .1 .1 .1 .1 .1 .1 .1 .1 .1 .0;
+      mark-of = l .1 .1 .1 .1 .1 .1 .1 .1 .1 .1 .1 .1 .1 .1 .1 .1 .1 .1 .1 .1 .1 .1 .1 .1 .0;
     }
 
 -- and those of the chains
@@ -84,7 +86,7 @@ abbrev linked : tie.After-finish → Links
 linked k = record { next-of = k .finish .last .1 .1 .1 .1 .1 .1 .0; first-of = k .finish .last .1 .1 .1 .1 .1 .1 .1 .0 }
 
 abbrev listing : tie.After-make-chunks → tie.After-keep-eligible
-listing k = k .before .before .before .before .before .before .before .before .before
+listing k = k .before .before .before .before .before .before .before .before .before .before
 
 all-made : (k : tie.After-make-chunks) (b : Given) → RunFits b (given (entry (listing k))) (entry (listing k) .args .on-entry)
     → AllMade b (entry (listing k) .args .at) (k .make-chunks .result) (workOf (areas (entry (listing k)))) (made k)
@@ -110,7 +112,7 @@ slice-aggregate-make-chunks c =
 
 make-chunks-requires : tie.Need-make-chunks-requires
 make-chunks-requires c κs =
-    let k = c .before .before .before .before .before .before .before .before in
+    let k = c .before .before .before .before .before .before .before .before .before in
     let s = entry k in
     let p = s .pre in
     record {
@@ -123,19 +125,19 @@ make-chunks-requires c κs =
 
 array-share-prefix-order-2 : tie.Need-array-share-prefix-order-2
 array-share-prefix-order-2 c =
-    let making = c .before .before .before .before .before .before .before .before .before .before .before .before in
+    let making = c .before .before .before .before .before .before .before .before .before .before .before .before .before .before in
     count-in (listing making)
 
 slice-aggregate-finish : tie.Need-slice-aggregate-finish
 slice-aggregate-finish c =
-    let making = c .before .before .before .before .before .before .before .before .before .before .before .before .before in
+    let making = c .before .before .before .before .before .before .before .before .before .before .before .before .before .before .before in
     let k = listing making in
     sym (length-take-le (k .keep-eligible .result) (k .keep-eligible .last .1 .1 .0) (count-in k))
 
 finish-requires : tie.Need-finish-requires
 finish-requires c κs =
-    let lent = c .before .before .before .before .before .before .before in
-    let making = lent .before .before .before .before .before .before .before .before .before .before in
+    let lent = c .before .before .before .before .before .before .before .before .before .before in
+    let making = lent .before .before .before .before .before .before .before .before .before in
     let kept = listing making in
     let s = entry kept in
     let p = s .pre in
@@ -167,11 +169,14 @@ same-length-7 c = search needs
 same-length-8 : tie.Need-same-length-8
 same-length-8 c = search needs
 
+same-length-9 : tie.Need-same-length-9
+same-length-9 c = search needs
+
 returns : tie.Need-returns
 returns c =
     let finishing = c .before .before .before .before .before .before in
-    let lent = finishing .before .before .before .before .before .before .before .before in
-    let making = lent .before .before .before .before .before .before .before .before .before .before in
+    let lent = finishing .before .before .before .before .before .before .before .before .before .before .before in
+    let making = lent .before .before .before .before .before .before .before .before .before in
     let kept = listing making in
     let s = entry kept in
     record {
@@ -203,4 +208,5 @@ run-spec =
     same-length-6
     same-length-7
     same-length-8
+    same-length-9
     returns)

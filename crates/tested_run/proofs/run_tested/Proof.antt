@@ -43,16 +43,14 @@ inputIn s =
 
 abbrev start : tie.After-all-settings → tie.Start
 start k =
-    k .before .before .before .before .before .before .before .before .before .before .before .before .before .before
-    .before .before .before .before .before .before .before .before .before .before .before .before .before .before .before
-    .before .before
+    k .before .before .before .before .before .before .before .before .before .before .before .before .before .before .before .before .before .before
+    .before .before .before .before .before .before .before .before .before .before .before .before .before .before
 
 all-settings-requires : tie.Need-all-settings-requires
 all-settings-requires c κs =
     let s =
-    c .before .before .before .before .before .before .before .before .before .before .before .before .before .before
-    .before .before .before .before .before .before .before .before .before .before .before .before .before .before .before
-    .before in
+    c .before .before .before .before .before .before .before .before .before .before .before .before .before .before .before .before .before .before
+    .before .before .before .before .before .before .before .before .before .before .before .before .before in
     has-groups (s .pre .b) (inputIn s) (s .pre .fits)
 
 cast-run : tie.Need-cast-run
@@ -60,7 +58,7 @@ cast-run c = let s = start c in omega (arith, s .pre .small)
 
 run-requires : tie.Need-run-requires
 run-requires c κs =
-    let k = c .before .before .before .before .before .before .before .before in
+    let k = c .before .before .before .before .before .before .before .before .before in
     let s = start k in
     let p = s .pre in
     record {
@@ -94,11 +92,14 @@ same-length-7 c = search needs
 same-length-8 : tie.Need-same-length-8
 same-length-8 c = search needs
 
+same-length-9 : tie.Need-same-length-9
+same-length-9 c = search needs
+
 returns : tie.Need-returns
 returns c =
-    let ran = c .before .before .before .before .before .before .before .before .before .before .before .before .before .before
-    .before .before in
-    let k = ran .before .before .before .before .before .before .before .before .before in
+    let ran = c .before .before .before .before .before .before .before .before .before .before .before .before .before .before .before .before .before
+    .before in
+    let k = ran .before .before .before .before .before .before .before .before .before .before in
     let s = start k in
     record {
       of-build = λ b fits.
@@ -120,4 +121,5 @@ run-tested-spec =
     same-length-6
     same-length-7
     same-length-8
+    same-length-9
     returns)

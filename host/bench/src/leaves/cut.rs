@@ -65,7 +65,7 @@ impl Case for CutCase<'_> {
 
     fn agreement(&mut self) -> Agreement {
         let places = self.places();
-        let found = places.found.then_some(places.index);
+        let found = (places.why_none == 0).then_some(places.index);
         if self.of_crate.run(1).1 == found { Agreement::Same } else { Agreement::Different }
     }
 }

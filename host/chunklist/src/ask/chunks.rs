@@ -1,7 +1,7 @@
 //! Chunks of a whole build.
 
 use gentropi::{
-    GroupBuf,
+    GroupBuf, Mark,
     raw::{self, ChunksAreas, ChunksTables, GroupTables},
 };
 use text::{Answer, Chunk, ChunkList, Chunks, Group, Options, tables, tables::BuildTables};
@@ -52,6 +52,7 @@ pub struct BuildAreas {
     size_of: Lent<f64>,
     /// Four words for each record.
     bits_of: Lent<u64>,
+    mark_of: Lent<u8>,
     scratch: Lent<u32>,
     count: Lent<usize>,
 }
@@ -123,8 +124,9 @@ pub fn group(group: &Group) -> gentropi::Group {
 
 impl BuildAreas {
     /// Areas of so many items, in the order of the call.
-    fn new(lengths: [usize; 8]) -> Self {
-        let [chunk_of, next_of, first_of, group_of, name_of, size_of, bits_of, scratch] = lengths;
+    fn new(lengths: [usize; 9]) -> Self {
+        let [chunk_of, next_of, first_of, group_of, name_of, size_of, bits_of, mark_of, scratch] =
+            lengths;
         Self {
             chunk_of: Lent::new("chunk_of", chunk_of),
             next_of: Lent::new("next_of", next_of),
@@ -133,6 +135,7 @@ impl BuildAreas {
             name_of: Lent::new("name_of", name_of),
             size_of: Lent::new("size_of", size_of),
             bits_of: Lent::new("bits_of", bits_of),
+            mark_of: Lent::new("mark_of", mark_of),
             scratch: Lent::new("scratch", scratch),
             count: Lent::new("count", 1),
         }
@@ -147,6 +150,7 @@ impl BuildAreas {
             name_of: self.name_of.lend(),
             size_of: self.size_of.lend(),
             bits_of: self.bits_of.lend(),
+            mark_of: self.mark_of.lend(),
             scratch: self.scratch.lend(),
             count: &mut self.count.lend()[0],
         }
@@ -158,7 +162,7 @@ impl BuildAreas {
     }
 
     /// What is wrong after a refusal.
-    fn untouched(&self) -> [Option<String>; 9] {
+    fn untouched(&self) -> [Option<String>; 10] {
         [
             self.chunk_of.untouched(),
             self.next_of.untouched(),
@@ -167,13 +171,14 @@ impl BuildAreas {
             self.name_of.untouched(),
             self.size_of.untouched(),
             self.bits_of.untouched(),
+            self.mark_of.untouched(),
             self.scratch.untouched(),
             self.count.untouched(),
         ]
     }
 
     /// What is wrong after an acceptance with `n` modules.
-    fn kept_past(&self, n: usize) -> [Option<String>; 8] {
+    fn kept_past(&self, n: usize) -> [Option<String>; 10] {
         let count = self.count();
         [
             self.chunk_of.kept_past(n),
@@ -183,8 +188,17 @@ impl BuildAreas {
             self.name_of.kept_past(count),
             self.size_of.kept_past(count),
             self.bits_of.kept_past(count.saturating_mul(4)),
+            self.mark_of.kept_past(count),
+            self.no_mark(count),
             self.scratch.zeros(),
         ]
+    }
+
+    /// What is wrong if one of the first `count` marks is none that there is.
+    fn no_mark(&self, count: usize) -> Option<String> {
+        let marks = self.mark_of.first(count);
+        let place = marks.iter().position(|mark| Mark::numbered(*mark).is_none())?;
+        Some(format!("mark_of[{place}] is {}, which is no mark", marks[place]))
     }
 
     /// The new chunks, and what is wrong if the chain of one doesn't end.
@@ -203,6 +217,7 @@ impl BuildAreas {
                 name: self.name_of.first(records)[record],
                 size: self.size_of.first(records)[record],
                 bits: std::array::from_fn(|word| bits[4 * record + word]),
+                mark: self.mark_of.first(records)[record],
                 modules: modules.unwrap_or_default(),
             });
         }
@@ -233,6 +248,7 @@ impl BuildAreas {
             4 => self.name_of.length(),
             5 => self.size_of.length(),
             6 => self.bits_of.length(),
+            7 => self.mark_of.length(),
             _ => self.scratch.length(),
         }
     }
@@ -247,6 +263,7 @@ impl BuildAreas {
             4 => self.name_of.word(place),
             5 => self.size_of.word(place),
             6 => self.bits_of.word(place),
+            7 => self.mark_of.word(place),
             _ => self.scratch.word(place),
         }
     }
@@ -265,5 +282,38 @@ impl Pattern for usize {
 
     fn word(self) -> u64 {
         self as u64
+    }
+}
+
+#[cfg(test)]
+mod tests {
+    use super::BuildAreas;
+
+    /// Areas of two items, with these marks in them.
+    fn marked(marks: [u8; 2]) -> BuildAreas {
+        let mut areas = BuildAreas::new([2, 2, 2, 2, 2, 2, 8, 2, 0]);
+        areas.lend().mark_of.copy_from_slice(&marks);
+        areas
+    }
+
+    #[test]
+    fn a_mark_that_there_is_not_is_told() {
+        assert_eq!(marked([0, 2]).no_mark(2), None);
+        assert_eq!(marked([1, 3]).no_mark(1), None);
+        let message = "mark_of[1] is 3, which is no mark";
+        assert_eq!(marked([1, 3]).no_mark(2).as_deref(), Some(message));
+    }
+
+    #[test]
+    fn marks_that_a_call_must_not_write_are_told() {
+        let mut areas = BuildAreas::new([2, 2, 2, 2, 2, 2, 8, 2, 0]);
+        assert_eq!(areas.untouched().into_iter().flatten().count(), 0);
+        areas.lend().mark_of[1] = 0;
+        let refused = "mark_of[1] was written by a refused call";
+        assert_eq!(areas.untouched().into_iter().flatten().collect::<Vec<_>>(), [refused]);
+        areas.lend().mark_of[0] = 0;
+        *areas.lend().count = 1;
+        let past = "mark_of[1] was written past the end at 1";
+        assert_eq!(areas.kept_past(2).into_iter().flatten().collect::<Vec<_>>(), [past]);
     }
 }

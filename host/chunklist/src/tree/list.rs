@@ -9,8 +9,9 @@ pub fn list(shown: &Shown) -> String {
     let mut text = format!("{}: {chunks}, {modules}, {bytes} bytes\n", shown.title);
     for chunk in &shown.chunks {
         let entries = shown.entry_names(&chunk.entries);
+        let too_large = chunk.too_large.as_ref().map_or(String::new(), |why| format!(", {why}"));
         text.push_str(&format!(
-            "\nchunk {}: {}, {} bytes, group {}, entries {entries}\n",
+            "\nchunk {}: {}, {} bytes, group {}, entries {entries}{too_large}\n",
             chunk.number, chunk.name, chunk.size, chunk.label
         ));
         chunk.modules.iter().for_each(|module| text.push_str(&line(module)));

@@ -24,7 +24,8 @@ struct Widths {
     modules: usize,
 }
 
-/// A line for each chunk, and a last one that counts those above the window.
+/// A line for each chunk, one more below a chunk that is above its maximum, and a last one that counts
+/// those above the window.
 pub fn picture(shown: &Shown, window: u64, colours: bool) -> String {
     let widths = Widths::new(shown, window);
     let counted = counted(shown.chunks.len(), "chunk");
@@ -36,7 +37,7 @@ pub fn picture(shown: &Shown, window: u64, colours: bool) -> String {
         let line = chunk_line(shown, chunk, window, &widths);
         let stands_out = colours && chunk.size > window;
         let line = if stands_out { format!("{BOLD_RED}{line}{PLAIN}") } else { line };
-        text.push_str(&format!("{line}\n"));
+        text.push_str(&format!("{line}\n{}", too_large(chunk, &widths)));
     }
     text + &format!("\n{}\n", verdict(shown, window))
 }
@@ -78,6 +79,13 @@ fn chunk_line(shown: &Shown, chunk: &ShownChunk, window: u64, widths: &Widths) -
     let entries = shown.entry_names(&chunk.entries);
     let name = name(chunk, widths);
     format!("{mark} {first}  {name}  {numbers}  {bar}{past}  {modules}  {entries}")
+}
+
+/// The line below a chunk that is above its maximum, from the column of names on.
+fn too_large(chunk: &ShownChunk, widths: &Widths) -> String {
+    let Widths { number, label, .. } = *widths;
+    let line = |why: &String| format!("   {:number$}  {:label$}  {why}\n", "", "");
+    chunk.too_large.as_ref().map_or(String::new(), line)
 }
 
 /// How many cells a name takes in its column, unless it has a line to itself.

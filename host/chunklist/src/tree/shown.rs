@@ -2,7 +2,7 @@
 
 use text::tree::TreeModule;
 
-use super::{NamedList, TreeBuild};
+use super::{NamedList, TreeBuild, too_large::too_large};
 
 /// A chunk list by names. Nothing of it depends on load numbers.
 #[derive(Debug, Clone, PartialEq)]
@@ -34,6 +34,8 @@ pub struct ShownChunk {
     pub name: String,
     /// Its size as the library gave it.
     pub size: u64,
+    /// Why it is above its maximum, by the library's mark; nothing for a chunk that isn't.
+    pub too_large: Option<String>,
     /// The numbers of its entries.
     pub entries: Vec<usize>,
     /// Its modules in execution order.
@@ -66,6 +68,7 @@ impl Shown {
             group_name: build.numbered.names[chunk.name as usize].clone(),
             name: name.clone(),
             size: chunk.size as u64,
+            too_large: too_large(tree, &tree.groups[chunk.group as usize], chunk.mark),
             entries: entries(chunk.bits),
             modules: chunk.modules.iter().map(|load| module(build, *load as usize)).collect(),
         };

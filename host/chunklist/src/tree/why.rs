@@ -49,7 +49,7 @@ impl<'a> Why<'a> {
         let cuts =
             self.reading.story.turns[..*place].iter().filter(|one| one.origin == turn.origin);
         lines.extend(cuts.filter_map(cut));
-        lines.extend(self.limits(chunk, turn));
+        lines.extend(self.entries_aware(chunk, turn));
         lines
     }
 
@@ -111,23 +111,13 @@ impl<'a> Why<'a> {
         apart.map(line).collect()
     }
 
-    /// What its limits did to it.
-    fn limits(&self, chunk: &ShownChunk, turn: &Turn) -> Vec<String> {
-        let group = &self.build.tree.groups[chunk.group];
-        let max_size = group.options.max_size.or(self.build.tree.options.max_size);
-        let oversized = max_size.filter(|max_size| turn.size as f64 > *max_size);
-        let reason = match turn.modules {
-            1 => "one module can't be cut",
-            _ => "no cut leaves min_size on both sides",
-        };
-        let oversized =
-            oversized.map(|max_size| format!("It is above max_size {max_size}; {reason}."));
-        let mut lines: Vec<String> = oversized.into_iter().collect();
-        if group.entries_aware == Some(true) {
-            lines.push("Its entries are those of its subgroup before anything left it.".into());
-            lines.extend(self.place(turn));
+    /// What comes of its group's being entries-aware.
+    fn entries_aware(&self, chunk: &ShownChunk, turn: &Turn) -> Vec<String> {
+        if self.build.tree.groups[chunk.group].entries_aware != Some(true) {
+            return Vec::new();
         }
-        lines
+        let entries = "Its entries are those of its subgroup before anything left it.";
+        [entries.into()].into_iter().chain(self.place(turn)).collect()
     }
 
     /// What the place of an entries-aware item goes by.

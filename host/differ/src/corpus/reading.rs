@@ -1,5 +1,5 @@
-//! Cases that are recorded because they tell the order of subgroups, or because they notice a fault of
-//! the reading of the papers.
+//! Cases that are recorded because they tell the order of subgroups or a chunk's mark, or because they
+//! notice a fault of the reading of the papers.
 
 use std::collections::BTreeSet;
 
@@ -10,7 +10,7 @@ use crate::{
     generate::telling,
     reading_faults::notices,
     reference::{
-        build, fault_list,
+        case, fault_list,
         rules::{ReadingFault, SOUND},
     },
     side::{Reference, Response, Side},
@@ -25,17 +25,25 @@ const LONGEST: usize = 2_200;
 /// The faults of the reading with how many recorded cases notice each, up to what is wanted.
 struct Noticed(Vec<(ReadingFault, u64)>);
 
-/// Adds all builds that are made to tell the order of subgroups.
-pub fn add_orders(builds: &mut Pair) {
-    for candidate in telling::orders().into_iter().filter_map(answered) {
+/// Adds all builds that are made to tell the order of subgroups, and those that tell marks.
+pub fn add_telling(builds: &mut Pair) {
+    add_all(builds, telling::orders(), "tells the order of subgroups");
+    add_all(builds, telling::marks(), "tells the mark of a chunk");
+}
+
+fn add_all(builds: &mut Pair, questions: Vec<Question>, reason: &str) {
+    for candidate in questions.into_iter().filter_map(answered) {
         let tag = format!("chunks{}", builds.count() + 1);
-        builds.add(&tag, "tells the order of subgroups", candidate);
+        builds.add(&tag, reason, candidate);
     }
 }
 
 /// Adds cases, the shortest first, until the recorded ones notice each fault as often as wanted.
 pub fn complete(builds: &mut Pair, refusals: &mut Pair) {
-    let mut noticed = Noticed(fault_list::all().into_iter().map(|fault| (fault, 0)).collect());
+    // Why a cut has no answer shows in no build: the recorded cuts have to tell.
+    let of_builds = |fault: &ReadingFault| !matches!(fault, ReadingFault::Nones(_));
+    let faults = fault_list::all().into_iter().filter(of_builds);
+    let mut noticed = Noticed(faults.map(|fault| (fault, 0)).collect());
     let mut seen = BTreeSet::new();
     for pair in [&*builds, &*refusals] {
         for case in read_cases(&pair.cases).expect("the cases can be read") {
@@ -68,10 +76,12 @@ pub fn complete(builds: &mut Pair, refusals: &mut Pair) {
 impl Noticed {
     /// The faults that a build notices and that are still wanted; they are given once more.
     fn still_wanted(&mut self, question: &Question) -> Vec<String> {
-        let Question::Chunks(chunks) = question else { return Vec::new() };
-        let sound = build(chunks, SOUND);
+        if question.call() != Call::Chunks {
+            return Vec::new();
+        }
+        let sound = case(question, SOUND);
         let wanted = self.0.iter_mut().filter(|(_, count)| *count < WANTED);
-        let noticed = wanted.filter(|(fault, _)| notices(*fault, chunks, &sound));
+        let noticed = wanted.filter(|(fault, _)| notices(*fault, question, &sound));
         let give = |(fault, count): &mut (ReadingFault, u64)| {
             *count += 1;
             format!("{fault:?}")

@@ -1,6 +1,6 @@
 //! Parts of random builds.
 
-use text::{Group, Module, Options};
+use text::{Build, Group, Module, Options};
 
 use super::{
     capture::flags,
@@ -81,6 +81,21 @@ pub fn group(rng: &mut Rng, modules: &[Module]) -> Group {
         entries_aware: rng.maybe(2, |rng| !rng.one_in(5)),
         threshold: rng.maybe(2, |rng| limit_near(rng, &sums)),
     }
+}
+
+/// Limits of one group, or of all, that allow few cuts: a least size near half of a sum or above it, and
+/// a largest one below the sum.
+pub fn tighten(rng: &mut Rng, build: &mut Build) {
+    let sums = sums(rng, &build.modules);
+    let sum = rng.pick(&sums);
+    let at = rng.at(4 * build.groups.len() / 3 + 1);
+    let options = match build.groups.get_mut(at) {
+        Some(group) => &mut group.options,
+        None => &mut build.options,
+    };
+    let half = sum / 2;
+    options.min_size = Some(limit_near(rng, &[half, half + 1, sum - sum / 3]));
+    options.max_size = Some(limit_near(rng, &[half, sum - sum / 4, sum.saturating_sub(1)]));
 }
 
 /// The answers of one group: in one group few match, in another most do.

@@ -28,7 +28,7 @@ pub fn random(rng: &mut Rng) -> Build {
     let group_count = rng.pick(&[0, 1, 1, 2, 2, 2, 3, 3, 4, 6]);
     let groups: Vec<Group> = (0..group_count).map(|_| build_parts::group(rng, &modules)).collect();
     build_parts::tag_modules(rng, &groups, &mut modules);
-    Build {
+    let mut build = Build {
         entries,
         names,
         count_on_entry: count_on_entry(rng),
@@ -37,7 +37,11 @@ pub fn random(rng: &mut Rng) -> Build {
         answers: groups.iter().map(|_| build_parts::answers(rng, count, names)).collect(),
         modules,
         groups,
+    };
+    if rng.one_in(6) {
+        build_parts::tighten(rng, &mut build);
     }
+    build
 }
 
 /// Mostly no chunk on entry, now and then as many as there may be.
@@ -49,11 +53,12 @@ fn count_on_entry(rng: &mut Rng) -> u64 {
 }
 
 /// Two overlapping groups over two modules, and one entries-aware group over three, alone and after
-/// a group that takes some of them.
+/// a group that takes some of them; and one group over three under all near limits.
 pub fn exhaustive(visit: Visit<'_>) {
     overlapping(visit);
     entries_aware(visit);
     taken_before(visit);
+    marked(visit);
 }
 
 /// All answers of two groups for two modules, with and without a dependency.
@@ -144,6 +149,38 @@ fn taken_before(visit: Visit<'_>) {
             }
         }
     }
+}
+
+/// All sizes of three modules under limits that leave every mark, of which a group of higher priority
+/// takes any. The limits are the group's or those of the build as a whole.
+fn marked(visit: Visit<'_>) {
+    for sizes in 0..27 {
+        for taken in 0..8_u32 {
+            for limits in near_limits() {
+                for of_group in [false, true] {
+                    let mut build = three_modules(0, sizes, [1, 0, 2]);
+                    build.groups =
+                        vec![Group::default(), Group { priority: Some(1), ..Group::default() }];
+                    build.answers.push((0..3).map(|at| 2 * (taken >> at & 1)).collect());
+                    let place =
+                        if of_group { &mut build.groups[0].options } else { &mut build.options };
+                    place.clone_from(&limits);
+                    visit(question(build));
+                }
+            }
+        }
+    }
+}
+
+/// Each of a few least sizes with each of a few largest ones.
+fn near_limits() -> Vec<Options> {
+    let mut all = Vec::new();
+    for min_size in [None, Some(1.0), Some(2.0), Some(3.0)] {
+        for max_size in [None, Some(-1.0), Some(0.0), Some(1.0), Some(2.0), Some(4.0)] {
+            all.push(Options { min_size, max_size, ..Options::default() });
+        }
+    }
+    all
 }
 
 /// Three modules in one entries-aware group; digits in base three give bits 1 to 3, sizes 0 to 2.

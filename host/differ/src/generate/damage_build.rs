@@ -1,6 +1,6 @@
 //! Damage to whole builds.
 
-use text::{Build, Chunks, Count, Options, Table, tables};
+use text::{Build, Chunks, Count, Damage, Options, Table, tables};
 
 use super::{
     damage::{above, bad_bit, bad_offsets, bad_records, nan, other_length, overflow},
@@ -138,11 +138,22 @@ fn bad_answer(rng: &mut Rng, build: &mut Build) -> bool {
     true
 }
 
+/// One area of chunk records alone is too short, that of marks among them.
+fn short_record_area(rng: &mut Rng, damage: &mut Damage, n: usize) {
+    let records = damage.records.get_or_insert(vec![n, n, n, n, 4 * n, n]);
+    let area = rng.at(records.len());
+    records[area] = rng.at(records[area]);
+}
+
 /// An output area shorter than N (12), or scratch shorter than its need (13).
 fn short_area(rng: &mut Rng, chunks: &mut Chunks, number: u32) -> bool {
     let n = chunks.build.modules.len();
     if n == 0 {
         return false;
+    }
+    if number == 12 && rng.one_in(2) {
+        short_record_area(rng, &mut chunks.damage, n);
+        return true;
     }
     let need = tables::scratch_need(&chunks.build);
     let areas = chunks.damage.areas.get_or_insert(vec![n, n, n, need]);

@@ -68,6 +68,9 @@ fn adorn_build(rng: &mut Rng, chunks: &mut Chunks) {
         let ids: Vec<&[u8]> = build.modules.iter().map(|module| module.id.as_slice()).collect();
         damage.offsets = Some(narrowed(rng, &ids));
     }
+    // Some of the areas of chunk records have a few items to spare.
+    damage.records =
+        rng.maybe(3, |rng| [n, n, n, n, 4 * n, n].map(|full| full + rng.at(3)).to_vec());
 }
 
 /// Whether the first and the last module may have any id.

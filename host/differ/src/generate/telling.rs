@@ -1,6 +1,7 @@
 //! Small whole builds, accepted and refused ones, each made to tell one rule of the papers from a
 //! reading that gets it wrong.
 
+mod marks;
 mod subgroups;
 
 use text::{Build, Chunks, Count, Damage, Group, Module, Options, Question, Record, Table, tables};
@@ -19,12 +20,17 @@ pub fn builds() -> Vec<Question> {
     all.extend(neighbours());
     all.extend(settings());
     all.extend(entry_words());
-    all.into_iter().map(question).chain(orders()).collect()
+    all.into_iter().map(question).chain(orders()).chain(marks()).collect()
 }
 
 /// Those that tell the order of subgroups.
 pub fn orders() -> Vec<Question> {
     subgroups::order().into_iter().map(question).collect()
+}
+
+/// Those that tell the mark of a chunk.
+pub fn marks() -> Vec<Question> {
+    marks::marked().into_iter().map(question).collect()
 }
 
 fn question(chunks: Chunks) -> Question {
@@ -237,8 +243,20 @@ fn areas() -> Vec<Chunks> {
             let damage = Damage { areas: Some(lengths), ..Damage::default() };
             all.push(damaged(build.clone(), damage));
         }
+        all.extend(record_areas(&build));
     }
     all
+}
+
+/// 12: each area of chunk records one short alone, that of marks among them.
+fn record_areas(build: &Build) -> Vec<Chunks> {
+    let n = build.modules.len();
+    let short = |area: usize| {
+        let mut records = vec![n, n, n, n, 4 * n, n];
+        records[area] -= 1;
+        damaged(build.clone(), Damage { records: Some(records), ..Damage::default() })
+    };
+    (0..6).map(short).collect()
 }
 
 /// A named module that is assigned, has no name, doesn't pass, shares its name with another module

@@ -1,6 +1,6 @@
 //! Kinds of whole build.
 
-use text::{Build, ChunkList, Chunks, Damage, Options, tables};
+use text::{Build, Chunk, ChunkList, Chunks, Damage, Options, tables};
 
 use super::Kinds;
 use crate::reference::{
@@ -14,6 +14,7 @@ pub fn kinds(build: &Build, list: &ChunkList) -> Kinds {
     let (_, trace) = chunk_list(&tables::of_chunks(&chunks));
     let mut kinds = of_counts(build, list);
     kinds.extend(of_events(&trace));
+    kinds.extend(of_marks(build, list));
     kinds.extend(of_groups(build));
     kinds.extend(of_modules(build));
     kinds
@@ -55,8 +56,34 @@ fn of_events(trace: &Trace) -> Kinds {
         ("an item cut", happened(Event::Cut)),
         ("a piece cut again", happened(Event::CutAgain)),
         ("an item above its max_size without a cut", happened(Event::Uncuttable)),
+        ("a piece above its maximum", happened(Event::PieceAbove)),
         ("an item that modules left", happened(Event::Narrowed)),
+        ("a mark that changed when modules left", happened(Event::MarkChanged)),
         ("bits wider than the chunk's modules", happened(Event::WiderBits)),
+    ]
+}
+
+fn of_marks(build: &Build, list: &ChunkList) -> Kinds {
+    let own = |chunk: &Chunk| build.groups[chunk.group as usize].options.max_size;
+    let in_force = |chunk: &Chunk| own(chunk).or(build.options.max_size);
+    let is_above =
+        |chunk: &Chunk, limit: Option<f64>| limit.is_some_and(|limit| chunk.size > limit);
+    let any = |is_so: &dyn Fn(&Chunk) -> bool| list.chunks.iter().any(is_so);
+    let otherwise = |chunk: &Chunk| {
+        let both = own(chunk).is_some() && build.options.max_size.is_some();
+        both && is_above(chunk, own(chunk)) != is_above(chunk, build.options.max_size)
+    };
+    vec![
+        ("a chunk without a maximum", any(&|chunk| in_force(chunk).is_none())),
+        (
+            "a chunk below its maximum",
+            any(&|chunk| in_force(chunk).is_some_and(|max| chunk.size < max)),
+        ),
+        ("a chunk at its maximum", any(&|chunk| in_force(chunk) == Some(chunk.size))),
+        ("a chunk above its maximum with one module", any(&|chunk| chunk.mark == 1)),
+        ("a chunk above its maximum with no cut allowed", any(&|chunk| chunk.mark == 2)),
+        ("a chunk of size 0 above its maximum", any(&|chunk| chunk.mark > 0 && chunk.size == 0.0)),
+        ("a chunk that the global maximum would mark otherwise", any(&otherwise)),
     ]
 }
 

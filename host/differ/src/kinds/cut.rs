@@ -1,6 +1,6 @@
 //! Kinds of question for Cut.
 
-use text::{Cut, CutAnswer};
+use text::{Cut, CutOutcome};
 
 use super::Kinds;
 use crate::reference::cut::{Allowed, allowed, replaces};
@@ -8,25 +8,38 @@ use crate::reference::cut::{Allowed, allowed, replaces};
 /// A later cut beside the best so far, and whether it replaced it.
 type Comparison = (Allowed, Allowed, bool);
 
-pub fn kinds(cut: &Cut, answer: Option<&CutAnswer>) -> Kinds {
+pub fn kinds(cut: &Cut, answer: &CutOutcome) -> Kinds {
     let ids: Vec<&[u8]> = cut.modules.iter().map(|(id, _)| id.as_slice()).collect();
     let sizes: Vec<u64> = cut.modules.iter().map(|(_, size)| *size).collect();
     let cuts = allowed(&ids, &sizes, cut.minimum);
     let mut kinds = of_input(cut, &sizes);
     kinds.extend(of_limits(cut, &ids, &sizes));
     kinds.extend(of_choice(&cuts, cut.maximum, answer));
-    kinds.extend([
-        ("no cut allowed", cut.modules.len() >= 2 && cuts.is_empty()),
-        ("one cut allowed", cuts.len() == 1),
-        ("several cuts allowed", cuts.len() > 1),
-    ]);
+    kinds.extend(of_nones(cut, answer));
+    kinds.extend([("one cut allowed", cuts.len() == 1), ("several cuts allowed", cuts.len() > 1)]);
     kinds
+}
+
+/// Why there is no cut.
+fn of_nones(cut: &Cut, answer: &CutOutcome) -> Kinds {
+    let (count, total) = (cut.modules.len(), cut.modules.iter().map(|(_, size)| size).sum::<u64>());
+    let fewer = *answer == CutOutcome::FewerThanTwo;
+    let not_allowed = *answer == CutOutcome::NoneAllowed;
+    vec![
+        ("fewer than two modules: none at all", fewer && count == 0),
+        ("fewer than two modules: one", fewer && count == 1),
+        ("one module below the minimum", fewer && count == 1 && (total as f64) < cut.minimum),
+        ("no cut allowed of two modules", not_allowed && count == 2),
+        ("no cut allowed of more modules", not_allowed && count > 2),
+        ("no cut allowed of modules that reach the minimum twice", {
+            not_allowed && total as f64 >= 2.0 * cut.minimum
+        }),
+    ]
 }
 
 fn of_input(cut: &Cut, sizes: &[u64]) -> Kinds {
     let ids = || cut.modules.iter().map(|(id, _)| id);
     vec![
-        ("fewer than two modules", sizes.len() < 2),
         ("a size of 0", sizes.contains(&0)),
         ("all sizes 0", sizes.len() > 1 && sizes.iter().all(|size| *size == 0)),
         ("a total of 2^53", sizes.iter().sum::<u64>() == 1 << 53),
@@ -57,7 +70,7 @@ fn of_limits(cut: &Cut, ids: &[&[u8]], sizes: &[u64]) -> Kinds {
     ]
 }
 
-fn of_choice(cuts: &[Allowed], maximum: f64, answer: Option<&CutAnswer>) -> Kinds {
+fn of_choice(cuts: &[Allowed], maximum: f64, answer: &CutOutcome) -> Kinds {
     let scan = scan(cuts, maximum);
     let lower_by = |by: i64| scan.iter().any(|(later, best, _)| gap(later, best) == -by);
     let higher_by = |by: i64| scan.iter().any(|(later, best, _)| gap(later, best) == by);
@@ -66,7 +79,9 @@ fn of_choice(cuts: &[Allowed], maximum: f64, answer: Option<&CutAnswer>) -> Kind
         |(later, best, _): &Comparison| later.oversized(maximum) != best.oversized(maximum);
     let tie = |pair: &&Comparison| near(pair) && !by_count(pair);
     let lowest = cuts.iter().map(|cut| cut.similarity).min();
-    let chosen = cuts.iter().find(|cut| answer.is_some_and(|a| a.index == cut.index as u64));
+    let is_chosen =
+        |cut: &&Allowed| matches!(answer, CutOutcome::At(at) if at.index == cut.index as u64);
+    let chosen = cuts.iter().find(is_chosen);
     vec![
         ("similarity lower by 9", lower_by(9)),
         ("similarity lower by 10", lower_by(10)),

@@ -44,7 +44,7 @@ pub fn of(question: &Question, answer: &Answer) -> Kinds {
 fn of_effective(question: &Question, answer: &Answer) -> Kinds {
     match (question, answer) {
         (Question::Sim(sim), Answer::Sim(value)) => similarity::kinds(sim, *value),
-        (Question::Cut(cut), Answer::Cut(answer)) => cut::kinds(cut, answer.as_ref()),
+        (Question::Cut(cut), Answer::Cut(answer)) => cut::kinds(cut, answer),
         (Question::Capture(capture), Answer::Capture(marks)) => capture::kinds(capture, marks),
         (Question::Filter(filter), Answer::Filter(passes)) => filter::kinds(filter, *passes),
         (Question::Merge(merge), Answer::Merge(_)) => merge::kinds(merge),

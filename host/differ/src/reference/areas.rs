@@ -132,10 +132,11 @@ impl Areas {
             self.write(Area::Name, record, u64::from(chunk.name));
             self.write(Area::Size, record, chunk.size.to_bits());
             (0..4).for_each(|word| self.write(Area::Bits, 4 * record + word, chunk.bits[word]));
+            self.write(Area::Mark, record, u64::from(chunk.mark));
         }
         let kept = rules.has(ReadingFault::ScratchKept);
         self.scratch.clear(if kept { scratch_need(tables, rules) as usize } else { usize::MAX });
-        let ends = [n, n, count, count, count, count, 4 * count];
+        let ends = [n, n, count, count, count, count, 4 * count, count];
         for (area, end) in Area::ALL.into_iter().zip(ends) {
             if rules.has(ReadingFault::PastEnd(area)) {
                 self.write(area, end, 0);

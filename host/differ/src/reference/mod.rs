@@ -3,7 +3,7 @@
 pub mod areas;
 
 pub use reading::*;
-use text::{ChunkList, Chunks, tables};
+use text::{Answer, ChunkList, Chunks, Question, tables};
 
 use areas::Areas;
 use rules::Rules;
@@ -13,6 +13,21 @@ use rules::Rules;
 pub struct BuildResult {
     pub outcome: Result<ChunkList, u32>,
     pub areas: Areas,
+}
+
+/// What comes of a case: of a whole build the lent areas too.
+#[derive(Debug, Clone, PartialEq)]
+pub enum CaseResult {
+    Build(BuildResult),
+    Leaf(Result<Answer, u32>),
+}
+
+/// A case by these rules.
+pub fn case(question: &Question, rules: Rules) -> CaseResult {
+    match question {
+        Question::Chunks(chunks) => CaseResult::Build(build(chunks, rules)),
+        leaf => CaseResult::Leaf(answer_by(rules, leaf)),
+    }
 }
 
 /// A whole build by these rules.

@@ -13,10 +13,11 @@ use crate::{
 #[derive(Debug, Clone, Copy, Default)]
 pub struct PairTally {
     pub pairs: u64,
-    /// Of these, pairs with a new chunk, with several modules in one, and with another count of
-    /// dependency records.
+    /// Of these, pairs with a new chunk, with several modules in one, with one above its maximum, and
+    /// with another count of dependency records.
     pub chunks: u64,
     pub chains: u64,
+    pub marked: u64,
     pub records: u64,
     /// Pairs whose lists differ.
     pub differ: u64,
@@ -45,6 +46,7 @@ impl Run {
         self.pairs.pairs += 1;
         self.pairs.chunks += u64::from(!list.chunks.is_empty());
         self.pairs.chains += u64::from(list.chunks.iter().any(|chunk| chunk.modules.len() > 1));
+        self.pairs.marked += u64::from(list.chunks.iter().any(|chunk| chunk.mark > 0));
         self.pairs.records += u64::from(build.records.len() != first.records.len());
         let damage = Damage { areas, ..Damage::default() };
         let question = Question::Chunks(Box::new(Chunks { build, damage }));
@@ -108,10 +110,16 @@ mod tests {
 
     /// How many of a few pairs differ, if something is done to each second build that has a chunk.
     fn differ(change: fn(&mut Build, usize)) -> (u64, u64) {
+        differ_from(|_| {}, change)
+    }
+
+    /// The same, if something is done to the first build's list too.
+    fn differ_from(spoil: fn(&mut ChunkList), change: fn(&mut Build, usize)) -> (u64, u64) {
         let plan = Plan { seed: 1, only: None, cases: 0, builds: 0, largest: 0, largest_p: 0 };
         let mut run = Run::new(plan);
         for case in 0..400 {
-            let (build, list, mut rng) = drawn(case);
+            let (build, mut list, mut rng) = drawn(case);
+            spoil(&mut list);
             let Some(chunk) = list.chunks.first() else { continue };
             let mut second = renumbered(&mut rng, &build);
             change(&mut second.build, second.numbers[chunk.modules[0] as usize] as usize);
@@ -137,6 +145,17 @@ mod tests {
             *size = if *size > 0 { *size - 1 } else { 1 };
         };
         let (differ, pairs) = differ(lower);
+        assert!(pairs > 100, "{pairs}");
+        assert_eq!(differ, pairs);
+    }
+
+    /// A mark that is another one in the first build is noticed.
+    #[test]
+    fn a_changed_mark_is_noticed() {
+        let other = |list: &mut ChunkList| {
+            list.chunks.iter_mut().take(1).for_each(|chunk| chunk.mark = (chunk.mark + 1) % 3);
+        };
+        let (differ, pairs) = differ_from(other, |_, _| {});
         assert!(pairs > 100, "{pairs}");
         assert_eq!(differ, pairs);
     }

@@ -28,16 +28,18 @@ static void cut(void) {
     const uint8_t bytes[] = { 'm', '1', 'm', '2', 'm', '3' };
     const uint32_t offsets[] = { 0, 2, 4, 6 };
     const uint64_t sizes[] = { 10, 20, 30 };
-    bool found = true;
+    uint8_t why_none = 99;
     size_t index = 99;
     double left = 99, right = 98;
-    CHECK(gentropi_cut(3, bytes, 6, offsets, 4, sizes, 3, NAN, 40, &found, &index, &left, &right) == GENTROPI_NAN);
-    CHECK(gentropi_cut(3, bytes, 6, offsets, 3, sizes, 3, 0, 40, &found, &index, &left, &right) == GENTROPI_LENGTH);
-    CHECK(found && index == 99 && left == 99 && right == 98);
-    CHECK(gentropi_cut(3, bytes, 6, offsets, 4, sizes, 3, 31, 40, &found, &index, &left, &right) == GENTROPI_ACCEPTED);
-    CHECK(!found && index == 99 && left == 99 && right == 98);
-    CHECK(gentropi_cut(3, bytes, 6, offsets, 4, sizes, 3, 30, 40, &found, &index, &left, &right) == GENTROPI_ACCEPTED);
-    CHECK(found && index == 2 && left == 30 && right == 30);
+    CHECK(gentropi_cut(3, bytes, 6, offsets, 4, sizes, 3, NAN, 40, &why_none, &index, &left, &right) == GENTROPI_NAN);
+    CHECK(gentropi_cut(3, bytes, 6, offsets, 3, sizes, 3, 0, 40, &why_none, &index, &left, &right) == GENTROPI_LENGTH);
+    CHECK(why_none == 99 && index == 99 && left == 99 && right == 98);
+    CHECK(gentropi_cut(3, bytes, 6, offsets, 4, sizes, 3, 31, 40, &why_none, &index, &left, &right) == GENTROPI_ACCEPTED);
+    CHECK(why_none == GENTROPI_CUT_NONE_ALLOWED && index == 99 && left == 99 && right == 98);
+    CHECK(gentropi_cut(1, bytes, 6, offsets, 2, sizes, 1, 0, 40, &why_none, &index, &left, &right) == GENTROPI_ACCEPTED);
+    CHECK(why_none == GENTROPI_CUT_FEWER_THAN_TWO && index == 99 && left == 99 && right == 98);
+    CHECK(gentropi_cut(3, bytes, 6, offsets, 4, sizes, 3, 30, 40, &why_none, &index, &left, &right) == GENTROPI_ACCEPTED);
+    CHECK(why_none == GENTROPI_CUT_FOUND && index == 2 && left == 30 && right == 30);
 }
 
 static void filter(void) {
@@ -81,31 +83,33 @@ static void merge(void) {
     CHECK(final_bits[0] == 0 && final_bits[4] == 2 && final_bits[8] == 3);
 }
 
-/* Two modules and two groups; each group gives each module a name, the first one name, the second two. */
+/* Two modules and two groups; each group gives each module a name, the first one name, the second two. The second has a maximum of 6. */
 struct build {
     uint32_t chunk_of[2], next_of[2], first_of[2], group_of[2], name_of[2];
     double size_of[2];
     uint64_t bits_of[8];
+    gentropi_mark mark_of[4];
     uint32_t scratch[256];
     size_t count;
 };
 
 static const uint32_t ANSWERS[] = { 2, 2, 3, 2 };
 
-static uint32_t split(struct build *b, size_t records, size_t words) {
-    static const uint8_t flags[] = { 3, 3 }, bytes[] = { 'a', 'b' }, given[] = { GENTROPI_MIN_SIZE, GENTROPI_RECURSION };
+static uint32_t split(struct build *b, size_t records, size_t marks, size_t words) {
+    static const uint8_t flags[] = { 3, 3 }, bytes[] = { 'a', 'b' };
+    static const uint8_t given[] = { GENTROPI_MIN_SIZE, GENTROPI_RECURSION | GENTROPI_MAX_SIZE };
     static const uint64_t sizes[] = { 5, 7 }, tags[] = { 0, 0 }, bits[] = { 1, 0, 0, 0, 2, 0, 0, 0 }, masks[] = { 0, 0 };
     static const uint32_t orders[] = { 0, 1 }, shares[] = { 1, 1 }, offsets[] = { 0, 1, 2 }, first[] = { 0, 0 }, record[] = { 0 };
     static const uint32_t zeros[] = { 0, 0 };
-    static const double least[] = { 13, 0 }, none[] = { 0, 0 };
+    static const double least[] = { 13, 0 }, most[] = { 0, 6 }, none[] = { 0, 0 };
     return gentropi_chunks(
         2, 2, 2, 2, 0,
         flags, 2, sizes, 2, orders, 2, shares, 2, tags, 2, bits, 8, bytes, 2, offsets, 3, first, 2, record, 1, record, 1,
         0, 0, 0, 0, 0, 0,
-        given, 2, least, 2, none, 2, none, 2, none, 2, zeros, 2, masks, 2, zeros, 2, none, 2,
+        given, 2, least, 2, most, 2, none, 2, none, 2, zeros, 2, masks, 2, zeros, 2, none, 2,
         ANSWERS, 4, 10,
         b->chunk_of, 2, b->next_of, 2, b->first_of, records, b->group_of, 2, b->name_of, 2, b->size_of, 2, b->bits_of, 8,
-        b->scratch, words, &b->count);
+        b->mark_of, marks, b->scratch, words, &b->count);
 }
 
 static void chunks(void) {
@@ -114,16 +118,19 @@ static void chunks(void) {
     CHECK(words == (32 + 1 + 2) * 2);
     memset(&b, 9, sizeof b);
     before = b;
-    CHECK(split(&b, 2, words - 1) == GENTROPI_SCRATCH);
-    CHECK(split(&b, 1, words) == GENTROPI_AREA);
+    CHECK(split(&b, 2, 4, words - 1) == GENTROPI_SCRATCH);
+    CHECK(split(&b, 1, 4, words) == GENTROPI_AREA);
+    CHECK(split(&b, 2, 1, words) == GENTROPI_AREA);
     CHECK(memcmp(&b, &before, sizeof b) == 0);
-    CHECK(split(&b, 2, words) == GENTROPI_ACCEPTED);
+    CHECK(split(&b, 2, 4, words) == GENTROPI_ACCEPTED);
     /* The first group drops its item of 12 bytes, the second makes a chunk of each module, name by name. */
     CHECK(b.count == 2);
     CHECK(b.group_of[0] == 1 && b.group_of[1] == 1);
     CHECK(b.chunk_of[b.first_of[0] - 1] == 11 && b.chunk_of[b.first_of[1] - 1] == 12);
     CHECK(b.size_of[0] + b.size_of[1] == 12);
     CHECK(b.bits_of[0] + b.bits_of[4] == 3);
+    /* The chunk of 7 bytes comes first. */
+    CHECK(b.mark_of[0] == GENTROPI_MARK_ONE_MODULE && b.mark_of[1] == GENTROPI_MARK_WITHIN && b.mark_of[2] == 9 && b.mark_of[3] == 9);
     CHECK(b.next_of[0] == 0 && b.next_of[1] == 0);
     for (size_t word = 0; word < words; word++) CHECK(b.scratch[word] == 0);
     CHECK(memcmp(b.scratch + words, before.scratch + words, sizeof b.scratch - words * sizeof *b.scratch) == 0);

@@ -9,8 +9,8 @@ mul-result c = search needs
 
 returns : tie.Need-returns
 returns c =
-    λ a e. areas a (c .before .before .before .before .before .before .before .args .n)
-    (c .before .before .before .before .before .before .before .args .lengths) e
+    λ a e. areas a (c .before .before .before .before .before .before .before .before .args .n)
+    (c .before .before .before .before .before .before .before .before .args .lengths) e
 
 pub bad-area-spec : {M : Type 1} → statement M
 bad-area-spec = tie.close (tie.spec mul-result returns)

@@ -102,7 +102,7 @@ returns c =
     let i = c .before .before .loop .i in
     let all : i - 1 ≡ length ids - 1 = omega (arith, ids-length (length l) (a .bytes .now) (a .offsets .now)) in
     c .into-cut .ensures
-    ∙ ap chosenFrom (c .before .before .loop .inv .3)
+    ∙ ap₂ chosenFrom (sym (ids-length (length l) (a .bytes .now) (a .offsets .now))) (c .before .before .loop .inv .3)
     ∙ scan-cuts (record { minimum = a .minimum; maximum = a .maximum }) ids l (i - 1) all
 
 pub pick-given-spec : {M : Type 1} → statement M

@@ -1,7 +1,7 @@
 -- `cut::tabled::pick_by_similarity` meets its contract. The loop's invariant: the best is that of the places before i, as the tables have them.
 use Prim.Native.Nat.{_-_, _≤_}
 use mathlib.Core.List.{List, foldl, map}
-use mathlib.Core.Path.{_≡_, refl, ap, _∙_}
+use mathlib.Core.Path.{_≡_, refl, sym, ap, ap₂, _∙_}
 use native.Mathlib.Omega.{arith}
 use borrow.Author.Needs.{needs}
 use lib.ListN.{length}
@@ -75,8 +75,8 @@ returns c m =
     let all : i - 1 ≡ length (a .similar .now) - 1 = omega arith in
     let all-ids : i - 1 ≡ length (m .ids) - 1 = omega (arith, m .as-many) in
     c .into-cut .ensures
-    ∙ ap chosenFrom (v .2)
-    ∙ ap (λ (cs : List Candidate). chosenFrom (foldl (considered bounds) Nothing cs)) (places-tabled (a .similar .now) (a .sums .now) (a .total) m (i - 1) all)
+    ∙ ap₂ chosenFrom (sym (m .as-many)) (v .2)
+    ∙ ap (λ (cs : List Candidate). chosenFrom (length (m .ids)) (foldl (considered bounds) Nothing cs)) (places-tabled (a .similar .now) (a .sums .now) (a .total) m (i - 1) all)
     ∙ scan-cuts bounds (m .ids) (m .sizes) (i - 1) all-ids
 
 pub pick-by-similarity-spec : {M : Type 1} → statement M

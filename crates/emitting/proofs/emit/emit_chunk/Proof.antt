@@ -19,7 +19,8 @@ store-fields-requires : tie.Need-store-fields-requires
 store-fields-requires c κs = search needs
 
 store-row-requires : tie.Need-store-row-requires
-store-row-requires c κs = search needs
+store-row-requires c κs = c .before .before .before .before .before .before .before .before .before .before .before .before .before .before .before .before
+    .before .before .before .before .before .before .before .before .before .before .before .before .pre .0 .words
 
 same-length : tie.Need-same-length
 same-length c = search needs
@@ -36,19 +37,23 @@ same-length-4 c = search needs
 same-length-5 : tie.Need-same-length-5
 same-length-5 c = search needs
 
+same-length-6 : tie.Need-same-length-6
+same-length-6 c = search needs
+
 returns : tie.Need-returns
 returns c =
     let stored = c .before .before in
-    let fields = stored .before .before .before .before .before .before .before .before in
-    let numbered = fields .before .before .before .before .before .before in
+    let fields = stored .before .before .before .before .before .before .before .before .before .before in
+    let numbered = fields .before .before .before .before .before .before .before in
     let own = numbered .before .before .before in
-    let a = own .before .before .before .before .before .before .before .before .args in
+    let a = own .before .before .before .before .before .before .before .before .before .args in
     written-chunk (record {
       numbers = numbered .add-modules-to-chunk .ensures;
       group = fields .store-fields .ensures .0;
       name = fields .store-fields .ensures .1 .0;
-      size = fields .store-fields .ensures .1 .1;
+      size = fields .store-fields .ensures .1 .1 .0;
       words = stored .store-row .ensures ∙ ap (withRow (a .bits-of .now) (a .at)) (own .chunk-bits .ensures);
+      mark = fields .store-fields .ensures .1 .1 .1;
     })
 
 pub emit-chunk-spec : {M : Type 1} → statement M
@@ -65,4 +70,5 @@ emit-chunk-spec =
     same-length-3
     same-length-4
     same-length-5
+    same-length-6
     returns)

@@ -9,25 +9,27 @@ use Rattle.emitting.proofs.Turn.{Emitted, none-emitted, part-room, one-
 use Rattle.emitting.proofs.emit.emit_parts.Statement.{statement}
 use Rattle.emitting.proofs.emit.emit_parts.Tie as tie
 
-abbrev areas : List ℕ → List ℕ → List ℕ → List Float → List ℕ → Work
-areas chunk-of group-of name-of size-of bits-of =
-    record { chunk-of = chunk-of; group-of = group-of; name-of = name-of; size-of = size-of; bits-of = bits-of }
+abbrev areas : List ℕ → List ℕ → List ℕ → List Float → List ℕ → List ℕ → Work
+areas chunk-of group-of name-of size-of bits-of mark-of =
+    record { chunk-of = chunk-of; group-of = group-of; name-of = name-of; size-of = size-of; bits-of = bits-of; mark-of = mark-of }
 
 abbrev Inv-loop : tie.InvT-loop
-Inv-loop head members starts sizes bits number at chunk-of₀ group-of₀ name-of₀ size-of₀ bits-of₀ end₀ j₀ chunk-of group-of name-of size-of bits-of end j =
-    Emitted head members starts sizes bits (number .0) at (areas chunk-of₀ group-of₀ name-of₀ size-of₀ bits-of₀)
-    (areas chunk-of group-of name-of size-of bits-of) end j
+Inv-loop head members starts sizes marks bits number at chunk-of₀ group-of₀ name-of₀ size-of₀ bits-of₀ mark-of₀ end₀ j₀
+    chunk-of group-of name-of size-of bits-of mark-of end j =
+    Emitted head members starts sizes marks bits (number .0) at (areas chunk-of₀ group-of₀ name-of₀ size-of₀ bits-of₀ mark-of₀)
+    (areas chunk-of group-of name-of size-of bits-of mark-of) end j
 
 abbrev μ-loop : tie.MeasureT-loop
-μ-loop head members starts sizes bits number at chunk-of₀ group-of₀ name-of₀ size-of₀ bits-of₀ end₀ j₀ chunk-of group-of name-of size-of bits-of end j =
+μ-loop head members starts sizes marks bits number at chunk-of₀ group-of₀ name-of₀ size-of₀ bits-of₀ mark-of₀ end₀ j₀
+    chunk-of group-of name-of size-of bits-of mark-of end j =
     length starts - j
 
 loop-holds : tie.Need-loop-holds Inv-loop μ-loop
 loop-holds c =
-    let s = c .before .before .before .before .before .before .before .before .before in
+    let s = c .before .before .before .before .before .before .before .before .before .before .before in
     let a = s .args in
-    none-emitted (a .head) (a .members .now) (a .starts .now) (a .sizes .now) (a .bits .now) (a .number .0) (a .at)
-    (areas (a .chunk-of .now) (a .group-of .now) (a .name-of .now) (a .size-of .now) (a .bits-of .now)) (s .pre .0)
+    none-emitted (a .head) (a .members .now) (a .starts .now) (a .sizes .now) (a .marks .now) (a .bits .now) (a .number .0) (a .at)
+    (areas (a .chunk-of .now) (a .group-of .now) (a .name-of .now) (a .size-of .now) (a .bits-of .now) (a .mark-of .now)) (s .pre .0)
 
 mul-start : tie.Need-mul-start Inv-loop μ-loop
 mul-start c = omega arith
@@ -36,16 +38,16 @@ shared-slice-read-start : tie.Need-shared-slice-read-start Inv-loop μ-loop
 shared-slice-read-start c = omega arith
 
 cast-start : tie.Need-cast-start Inv-loop μ-loop
-cast-start c = omega (arith, c .shared-slice-known5 .given (c .before .before .loop .j))
+cast-start c = omega (arith, c .shared-slice-known6 .given (c .before .before .loop .j))
 
-cast-t20 : tie.Need-cast-t20 Inv-loop μ-loop
-cast-t20 c = omega (arith, c .before .before .before .before .before .before .before .before .before .before .before .before .pre .1)
+cast-t22 : tie.Need-cast-t22 Inv-loop μ-loop
+cast-t22 c = omega (arith, c .before .before .before .before .before .before .before .before .before .before .before .before .before .before .pre .1)
 
-add-t21 : tie.Need-add-t21 Inv-loop μ-loop
-add-t21 c = omega (arith, c .before .before .before .before .before .before .before .before .before .before .before .before .before .pre .1)
+add-t23 : tie.Need-add-t23 Inv-loop μ-loop
+add-t23 c = omega (arith, c .before .before .before .before .before .before .before .before .before .before .before .before .before .before .before .pre .1)
 
 mul-emit-chunk : tie.Need-mul-emit-chunk Inv-loop μ-loop
-mul-emit-chunk c = omega (arith, c .before .shared-slice-known5 .given (c .before .before .before .loop .j))
+mul-emit-chunk c = omega (arith, c .before .shared-slice-known6 .given (c .before .before .before .loop .j))
 
 sub-emit-chunk : tie.Need-sub-emit-chunk Inv-loop μ-loop
 sub-emit-chunk c = c .before .before .before .loop .inv .next (omega arith)
@@ -62,22 +64,30 @@ mul-emit-chunk-2 c = omega arith
 shared-slice-read-emit-chunk : tie.Need-shared-slice-read-emit-chunk Inv-loop μ-loop
 shared-slice-read-emit-chunk c =
     let looped = c .before .before .before .before .before in
-    omega (arith, looped .before .before .before .before .before .before .before .before .before .before .pre .0 .same-count)
+    omega (arith, looped .before .before .before .before .before .before .before .before .before .before .before .before .pre .0 .same-count)
+
+shared-slice-read-emit-chunk-2 : tie.Need-shared-slice-read-emit-chunk-2 Inv-loop μ-loop
+shared-slice-read-emit-chunk-2 c = omega (
+  arith,
+  c .before .before .before .before .before .before .before .before .before .before .before .before .before
+      .before .before .before .before .before .pre .0 .same-marks,
+)
 
 add-emit-chunk : tie.Need-add-emit-chunk Inv-loop μ-loop
 add-emit-chunk c =
-    let room = c .before .before .before .before .before .before .before .before .before .before .before .before .before .before .before .pre .0 .room in
-    omega (arith, room (c .before .before .before .before .before .loop .j) (c .before .before .before .before .loop-test .taken) .groups)
+    let room = c .before .before .before .before .before .before .before .before .before .before .before .before .before .before .before .before .before
+    .before .pre .0 .room in
+    omega (arith, room (c .before .before .before .before .before .before .loop .j) (c .before .before .before .before .before .loop-test .taken) .groups)
 
 emit-chunk-requires : tie.Need-emit-chunk-requires Inv-loop μ-loop
 emit-chunk-requires c κs =
-    let tested = c .before .before .before .before .before .before .before .before .before in
+    let tested = c .before .before .before .before .before .before .before .before .before .before .before in
     let l = tested .before .loop in
-    let s = tested .before .before .before .before .before .before .before .before .before .before .before in
+    let s = tested .before .before .before .before .before .before .before .before .before .before .before .before .before in
     let a = s .args in (
-      part-room (a .head) (a .members .now) (a .starts .now) (a .sizes .now) (a .bits .now) (a .number .0) (a .at)
-          (areas (a .chunk-of .now) (a .group-of .now) (a .name-of .now) (a .size-of .now) (a .bits-of .now)) (s .pre .0)
-          (areas (l .chunk-of) (l .group-of) (l .name-of) (l .size-of) (l .bits-of)) (l .end) (l .j) (l .inv) (tested .loop-test .taken),
+      part-room (a .head) (a .members .now) (a .starts .now) (a .sizes .now) (a .marks .now) (a .bits .now) (a .number .0) (a .at)
+          (areas (a .chunk-of .now) (a .group-of .now) (a .name-of .now) (a .size-of .now) (a .bits-of .now) (a .mark-of .now)) (s .pre .0)
+          (areas (l .chunk-of) (l .group-of) (l .name-of) (l .size-of) (l .bits-of) (l .mark-of)) (l .end) (l .j) (l .inv) (tested .loop-test .taken),
       omega (arith, s .pre .1, tested .loop-test .taken),
     )
 
@@ -89,14 +99,14 @@ loop-less c = omega arith
 
 loop-again : tie.Need-loop-again Inv-loop μ-loop
 loop-again c =
-    let called = c .before .before .before .before .before .before .before .before .before .before in
-    let tested = called .before .before .before .before .before .before .before .before .before .before in
+    let called = c .before .before .before .before .before .before .before .before .before .before .before .before in
+    let tested = called .before .before .before .before .before .before .before .before .before .before .before .before in
     let l = tested .before .loop in
-    let s = tested .before .before .before .before .before .before .before .before .before .before .before in
+    let s = tested .before .before .before .before .before .before .before .before .before .before .before .before .before in
     let a = s .args in
-    one-emitted (a .head) (a .members .now) (a .starts .now) (a .sizes .now) (a .bits .now) (a .number .0) (a .at)
-    (areas (a .chunk-of .now) (a .group-of .now) (a .name-of .now) (a .size-of .now) (a .bits-of .now)) (s .pre .0)
-    (areas (l .chunk-of) (l .group-of) (l .name-of) (l .size-of) (l .bits-of)) (l .end) (l .j) (l .inv) _
+    one-emitted (a .head) (a .members .now) (a .starts .now) (a .sizes .now) (a .marks .now) (a .bits .now) (a .number .0) (a .at)
+    (areas (a .chunk-of .now) (a .group-of .now) (a .name-of .now) (a .size-of .now) (a .bits-of .now) (a .mark-of .now)) (s .pre .0)
+    (areas (l .chunk-of) (l .group-of) (l .name-of) (l .size-of) (l .bits-of) (l .mark-of)) (l .end) (l .j) (l .inv) _ _
     (tested .loop-test .taken) (called .emit-chunk .ensures)
 
 same-length : tie.Need-same-length Inv-loop μ-loop
@@ -114,14 +124,17 @@ same-length-4 c = c .before .loop .inv .lengths .size-of
 same-length-5 : tie.Need-same-length-5 Inv-loop μ-loop
 same-length-5 c = c .before .loop .inv .lengths .bits-of
 
+same-length-6 : tie.Need-same-length-6 Inv-loop μ-loop
+same-length-6 c = c .before .loop .inv .lengths .mark-of
+
 returns : tie.Need-returns Inv-loop μ-loop
 returns c =
-    let s = c .before .before .before .before .before .before .before .before .before .before .before in
+    let s = c .before .before .before .before .before .before .before .before .before .before .before .before .before in
     let a = s .args in
     let l = c .before .loop in
-    all-emitted (a .head) (a .members .now) (a .starts .now) (a .sizes .now) (a .bits .now) (a .number .0) (a .at)
-    (areas (a .chunk-of .now) (a .group-of .now) (a .name-of .now) (a .size-of .now) (a .bits-of .now)) (s .pre .0)
-    (areas (l .chunk-of) (l .group-of) (l .name-of) (l .size-of) (l .bits-of)) (l .end) (l .j) (l .inv) (omega arith)
+    all-emitted (a .head) (a .members .now) (a .starts .now) (a .sizes .now) (a .marks .now) (a .bits .now) (a .number .0) (a .at)
+    (areas (a .chunk-of .now) (a .group-of .now) (a .name-of .now) (a .size-of .now) (a .bits-of .now) (a .mark-of .now)) (s .pre .0)
+    (areas (l .chunk-of) (l .group-of) (l .name-of) (l .size-of) (l .bits-of) (l .mark-of)) (l .end) (l .j) (l .inv) (omega arith)
 
 pub emit-parts-spec : {M : Type 1} → statement M
 emit-parts-spec =
@@ -133,14 +146,15 @@ emit-parts-spec =
     mul-start
     shared-slice-read-start
     cast-start
-    cast-t20
-    add-t21
+    cast-t22
+    add-t23
     mul-emit-chunk
     sub-emit-chunk
     part-emit-chunk-start
     part-emit-chunk-end
     mul-emit-chunk-2
     shared-slice-read-emit-chunk
+    shared-slice-read-emit-chunk-2
     add-emit-chunk
     emit-chunk-requires
     add-j
@@ -151,4 +165,5 @@ emit-parts-spec =
     same-length-3
     same-length-4
     same-length-5
+    same-length-6
     returns)

@@ -45,9 +45,8 @@ same-length-8 c = search needs
 returns : tie.Need-returns
 returns c =
     let d =
-    c .before .before .before .before .before .before .before .before .before .before
-    .before .before .before .before .before .before .before .before .before in
-    chunks-exported (d .before .before .before .before .before .before .before .before .before .options-by .ensures) (ap outcomeOf (c .before .answer .given .1)) (d .split .ensures)
+    c .before .before .before .before .before .before .before .before .before .before .before .before .before .before .before .before .before .before .before .before .before in
+    chunks-exported (d .before .before .before .before .before .before .before .before .before .before .options-by .ensures) (ap outcomeOf (c .before .answer .given .1)) (d .split .ensures)
 
 same-length-9 : tie.Need-same-length-9
 same-length-9 c = search needs
@@ -73,12 +72,17 @@ same-length-15 c = search needs
 same-length-16 : tie.Need-same-length-16
 same-length-16 c = search needs
 
+same-length-17 : tie.Need-same-length-17
+same-length-17 c = search needs
+
+same-length-18 : tie.Need-same-length-18
+same-length-18 c = search needs
+
 returns-2 : tie.Need-returns-2
 returns-2 c =
     let d =
-    c .before .before .before .before .before .before .before .before .before .before
-    .before .before .before .before .before .before .before .before .before in
-    chunks-exported (d .before .before .before .before .before .before .before .before .before .options-by .ensures) (ap outcomeOf (c .before .answer2 .given .1)) (d .split .ensures)
+    c .before .before .before .before .before .before .before .before .before .before .before .before .before .before .before .before .before .before .before .before .before in
+    chunks-exported (d .before .before .before .before .before .before .before .before .before .before .options-by .ensures) (ap outcomeOf (c .before .answer2 .given .1)) (d .split .ensures)
 
 pub gentropi-chunks-spec : {M : Type 1} → statement M
 gentropi-chunks-spec =
@@ -96,8 +100,8 @@ gentropi-chunks-spec =
     same-length-6
     same-length-7
     same-length-8
-    returns
     same-length-9
+    returns
     same-length-10
     same-length-11
     same-length-12
@@ -105,4 +109,6 @@ gentropi-chunks-spec =
     same-length-14
     same-length-15
     same-length-16
+    same-length-17
+    same-length-18
     returns-2)

@@ -14,7 +14,7 @@ use Rattle.groups.proofs.convert.convert_group.Tie as tie
 
 abbrev start : tie.After-match-group → tie.Start
 start m = m .before .before .before .before .before .before .before .before .before .before .before .before .before .before .before .before .before .before
-    .before .before .before .before .before .before .before .before .before .before
+    .before .before .before .before .before .before .before .before .before .before .before
 
 -- the matched modules are written to the front of it
 abbrev area : tie.After-match-group → List ℕ
@@ -29,8 +29,8 @@ room m =
 
 match-group-requires : tie.Need-match-group-requires
 match-group-requires c κs =
-    let s = c .before .before .before .before .before .before .before .before .before .before .before .before .before .before .before .before .before .before
-    .before .before .before .before .before .before .before .before .before in
+    let s = c .before .before .before .before .before .before .before .before .before .before .before .before .before .before .before .before .before
+    .before .before .before .before .before .before .before .before .before .before .before in
     let p = s .pre .0 in
     group-ready (p .turning .b) (p .turning .fits) (p .fits) _ (s .pre .1 .1)
 
@@ -42,7 +42,7 @@ slice-aggregate-convert-names c = let m = c .before .before .before in sym (leng
 
 convert-names-requires : tie.Need-convert-names-requires
 convert-names-requires c κs =
-    let m = c .before .before .before .before .before .before .before .before .before .before .before .before .before in
+    let m = c .before .before .before .before .before .before .before .before .before .before .before .before .before .before in
     let s = start m in
     let p = s .pre .0 in
     let fits = group-fits (p .turning .b) (p .turning .fits) (p .fits) (m .match-group .ensures) in
@@ -81,11 +81,14 @@ same-length-10 c = search needs
 same-length-11 : tie.Need-same-length-11
 same-length-11 c = search needs
 
+same-length-12 : tie.Need-same-length-12
+same-length-12 c = search needs
+
 returns : tie.Need-returns
 returns c =
     let called = c .before .before .before .before .before .before .before .before .before .before .before .before .before .before .before .before .before
-    .before .before .before in
-    let m = called .before .before .before .before .before .before .before .before .before .before .before .before .before .before in
+    .before .before .before .before .before in
+    let m = called .before .before .before .before .before .before .before .before .before .before .before .before .before .before .before in
     let e = called .convert-names .ensures in
     let kept = m .match-group .kept .1 .1 .1 .1 .1 .1 .0 in
     (group-turned (m .match-group .ensures) (e .0), (e .1 .0, e .1 .1, kept, e .1 .2, e .1 .3, e .1 .4))
@@ -109,4 +112,5 @@ convert-group-spec =
     same-length-9
     same-length-10
     same-length-11
+    same-length-12
     returns)

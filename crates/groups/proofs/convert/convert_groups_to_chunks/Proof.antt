@@ -19,15 +19,15 @@ use Rattle.groups.proofs.convert.convert_groups_to_chunks.Tie as tie
 
 abbrev Inv-loop : tie.InvT-loop
 Inv-loop turns answers n flags sizes shares tags bits bytes offsets first dependency next order rank number at scratch₀ chunk-of₀ group-of₀ name-of₀
-    size-of₀ bits-of₀ settings place closed₀ marks₀ followed₀ set₀ matched₀ made₀ i₀ scratch chunk-of group-of name-of size-of bits-of closed marks followed
+    size-of₀ bits-of₀ mark-of₀ settings place closed₀ marks₀ followed₀ set₀ matched₀ made₀ i₀ scratch chunk-of group-of name-of size-of bits-of mark-of closed marks followed
     set matched made i =
     TurnsTo (record { bytes = bytes; offsets = offsets; sizes = sizes; rank = rank })
     (record { flags = flags; first = first; dependency = dependency; next = next; order = order }) bits settings turns
     (record { answers = answers; tags = tags; shares = shares }) n (number .0) at i made
-    (record { chunk-of = chunk-of₀; group-of = group-of₀; name-of = name-of₀; size-of = size-of₀; bits-of = bits-of₀ })
-    (record { chunk-of = chunk-of; group-of = group-of; name-of = name-of; size-of = size-of; bits-of = bits-of })
-    × SameLengths (record { chunk-of = chunk-of; group-of = group-of; name-of = name-of; size-of = size-of; bits-of = bits-of })
-    (record { chunk-of = chunk-of₀; group-of = group-of₀; name-of = name-of₀; size-of = size-of₀; bits-of = bits-of₀ })
+    (record { chunk-of = chunk-of₀; group-of = group-of₀; name-of = name-of₀; size-of = size-of₀; bits-of = bits-of₀; mark-of = mark-of₀ })
+    (record { chunk-of = chunk-of; group-of = group-of; name-of = name-of; size-of = size-of; bits-of = bits-of; mark-of = mark-of })
+    × SameLengths (record { chunk-of = chunk-of; group-of = group-of; name-of = name-of; size-of = size-of; bits-of = bits-of; mark-of = mark-of })
+    (record { chunk-of = chunk-of₀; group-of = group-of₀; name-of = name-of₀; size-of = size-of₀; bits-of = bits-of₀; mark-of = mark-of₀ })
     × (length scratch ≡ length scratch₀)
     × (length marks ≡ 4096)
     × (length set ≡ 4096)
@@ -38,7 +38,7 @@ Inv-loop turns answers n flags sizes shares tags bits bytes offsets first depend
 
 abbrev μ-loop : tie.MeasureT-loop
 μ-loop turns answers n flags sizes shares tags bits bytes offsets first dependency next order rank number at scratch₀ chunk-of₀ group-of₀ name-of₀
-    size-of₀ bits-of₀ settings place closed₀ marks₀ followed₀ set₀ matched₀ made₀ i₀ scratch chunk-of group-of name-of size-of bits-of closed marks followed
+    size-of₀ bits-of₀ mark-of₀ settings place closed₀ marks₀ followed₀ set₀ matched₀ made₀ i₀ scratch chunk-of group-of name-of size-of bits-of mark-of closed marks followed
     set matched made i =
     length turns - i
 
@@ -46,10 +46,11 @@ abbrev μ-loop : tie.MeasureT-loop
 
 abbrev start : tie.In-loop Inv-loop μ-loop → tie.Start Inv-loop μ-loop
 start k = k .before .before .before .before .before .before .before .before .before .before .before .before .before .before .before .before .before .before
-    .before .before .before .before .before .before .before .before .before .before
+    .before .before .before .before .before .before .before .before .before .before .before
 
 abbrev turn : tie.After-convert-group Inv-loop μ-loop → tie.In-loop Inv-loop μ-loop
 turn m = m .before .before .before .before .before .before .before .before .before .before .before .before .before .before .before .before .before .before
+    .before
 
 -- the front of an area of zeros
 zeros-long : {n : ℕ} → n ≤ 4096 → n ≤ length (replicate {A = ℕ} 4096 0)
@@ -63,8 +64,8 @@ slice-aggregate-store-places c = search needs
 
 store-places-requires : tie.Need-store-places-requires Inv-loop μ-loop
 store-places-requires c κs =
-    let p = c .before .before .before .before .before .before .before .before .before .before .before .before .before .before .before .before .before .before
-    .before .before .before .pre .0 in
+    let p = c .before .before .before .before .before .before .before .before .before .before .before .before .before .before .before .before .before
+    .before .before .before .before .before .pre .0 in
     places-free (p .turning .fits .passed) (p .fits .walks) (omega (arith, given-flags p, given-few p, length-replicate {A = ℕ} 4096 0))
     (λ m. omega (arith, zeros 4096 m))
 
@@ -72,27 +73,27 @@ array-borrow-prefix-closed : tie.Need-array-borrow-prefix-closed Inv-loop μ-loo
 array-borrow-prefix-closed c =
     omega (
       arith,
-      given-few (c .before .before .before .before .before .before .before .before .before .before .before .before .before .before .before
-          .before .before .before .before .before .before .before .before .pre .0),
+      given-few (c .before .before .before .before .before .before .before .before .before .before .before .before .before .before .before .before .before
+          .before .before .before .before .before .before .before .pre .0),
     )
 
 slice-aggregate-copy-bytes : tie.Need-slice-aggregate-copy-bytes Inv-loop μ-loop
 slice-aggregate-copy-bytes c =
-    let s = c .before .before .before .before .before .before .before .before .before .before .before .before .before .before .before .before .before .before
-    .before .before .before .before .before .before in
+    let s = c .before .before .before .before .before .before .before .before .before .before .before .before .before .before .before .before .before
+    .before .before .before .before .before .before .before .before in
     sym (zeros-front (s .args .n) (given-few (s .pre .0)))
 
 copy-bytes-requires : tie.Need-copy-bytes-requires Inv-loop μ-loop
 copy-bytes-requires c κs =
-    let s = c .before .before .before .before .before .before .before .before .before .before .before .before .before .before .before .before .before .before
-    .before .before .before .before .before .before in
+    let s = c .before .before .before .before .before .before .before .before .before .before .before .before .before .before .before .before .before
+    .before .before .before .before .before .before .before .before in
     given-flags (s .pre .0) ∙ sym (zeros-front (s .args .n) (given-few (s .pre .0)))
 
 loop-holds : tie.Need-loop-holds Inv-loop μ-loop
 unfolding unfollowed
 loop-holds c =
-    let s = c .before .before .before .before .before .before .before .before .before .before .before .before .before .before .before .before .before .before
-    .before .before .before .before .before .before .before .before in
+    let s = c .before .before .before .before .before .before .before .before .before .before .before .before .before .before .before .before .before
+    .before .before .before .before .before .before .before .before .before .before in
     let p = s .pre .0 in
     let n = s .args .n in
     let r = c .before .copy-bytes in
@@ -151,11 +152,11 @@ part-convert-group-end c = let k = c .before .before .before in row-within (star
 slice-aggregate-convert-group : tie.Need-slice-aggregate-convert-group Inv-loop μ-loop
 slice-aggregate-convert-group c = search needs
 
-cast-t59 : tie.Need-cast-t59 Inv-loop μ-loop
-cast-t59 c = let k = c .before .before .before .before .before in omega (arith, number-small (k .before .loop .inv .0) (start k .pre .0))
+cast-t60 : tie.Need-cast-t60 Inv-loop μ-loop
+cast-t60 c = let k = c .before .before .before .before .before in omega (arith, number-small (k .before .loop .inv .0) (start k .pre .0))
 
-add-t60 : tie.Need-add-t60 Inv-loop μ-loop
-add-t60 c = let k = c .before .before .before .before .before .before in omega (arith, number-small (k .before .loop .inv .0) (start k .pre .0))
+add-t61 : tie.Need-add-t61 Inv-loop μ-loop
+add-t61 c = let k = c .before .before .before .before .before .before in omega (arith, number-small (k .before .loop .inv .0) (start k .pre .0))
 
 add-convert-group : tie.Need-add-convert-group Inv-loop μ-loop
 add-convert-group c =
@@ -199,7 +200,8 @@ slice-aggregate-convert-group-6 c = sym (c .before .before .before .before .befo
 
 convert-group-requires : tie.Need-convert-group-requires Inv-loop μ-loop
 convert-group-requires c κs =
-    let k = c .before .before .before .before .before .before .before .before .before .before .before .before .before .before .before .before .before in
+    let k = c .before .before .before .before .before .before .before .before .before .before .before .before .before .before .before .before .before
+    .before in
     let s = start k in
     let p = s .pre .0 in
     let l = k .before .loop in
@@ -223,7 +225,8 @@ convert-group-requires c κs =
 
 add-made : tie.Need-add-made Inv-loop μ-loop
 add-made c =
-    let m = c .before .before .before .before .before .before .before .before .before .before .before .before .before .before .before .before .before in
+    let m = c .before .before .before .before .before .before .before .before .before .before .before .before .before .before .before .before .before
+    .before .before in
     let k = turn m in
     let l = k .before .loop in
     let next = one-turned (l .inv .0) _ (k .loop-test .taken) (m .convert-group .ensures .0) in
@@ -232,17 +235,20 @@ add-made c =
 
 add-i : tie.Need-add-i Inv-loop μ-loop
 add-i c =
-    let k = turn (c .before .before .before .before .before .before .before .before .before .before .before .before .before .before .before .before .before) in
+    let k = turn (c .before .before .before .before .before .before .before .before .before .before .before .before .before .before .before .before .before
+    .before .before) in
     omega (arith, k .loop-test .taken, start k .good .1 .0)
 
 loop-less : tie.Need-loop-less Inv-loop μ-loop
 loop-less c =
-    let k = turn (c .before .before .before .before .before .before .before .before .before .before .before .before .before .before .before .before .before) in
+    let k = turn (c .before .before .before .before .before .before .before .before .before .before .before .before .before .before .before .before .before
+    .before .before) in
     omega (arith, k .loop-test .taken)
 
 loop-again : tie.Need-loop-again Inv-loop μ-loop
 loop-again c =
-    let m = c .before .before .before .before .before .before .before .before .before .before .before .before .before .before .before .before .before in
+    let m = c .before .before .before .before .before .before .before .before .before .before .before .before .before .before .before .before .before
+    .before .before in
     let k = turn m in
     let l = k .before .loop in
     let r = m .convert-group in
@@ -258,6 +264,7 @@ loop-again c =
         name-of = r .kept .1 .1 .1 .1 .1 .1 .1 .1 .1 .1 .1 .1 .1 .1 .1 .1 .1 .1 .1 .1 .1 .1 .1 .1 .1 .1 .1 .0 ∙ same .name-of;
         size-of = r .kept .1 .1 .1 .1 .1 .1 .1 .1 .1 .1 .1 .1 .1 .1 .1 .1 .1 .1 .1 .1 .1 .1 .1 .1 .1 .1 .1 .1 .0 ∙ same .size-of;
         bits-of = r .kept .1 .1 .1 .1 .1 .1 .1 .1 .1 .1 .1 .1 .1 .1 .1 .1 .1 .1 .1 .1 .1 .1 .1 .1 .1 .1 .1 .1 .1 .0 ∙ same .bits-of;
+        mark-of = r .kept .1 .1 .1 .1 .1 .1 .1 .1 .1 .1 .1 .1 .1 .1 .1 .1 .1 .1 .1 .1 .1 .1 .1 .1 .1 .1 .1 .1 .1 .1 .0 ∙ same .mark-of;
       },
       r .kept .1 .1 .1 .1 .1 .1 .1 .1 .1 .1 .1 .1 .1 .1 .1 .1 .1 .1 .1 .1 .1 .1 .1 .1 .0 ∙ l .inv .2,
       length-front (l .marks) marks n (r .kept .1 .1 .1 .1 .1 .1 .1 .1 .1 .1 .1 .1 .1 .1 .1 .1 .1 .1 .1 .1 .0) ∙ l .inv .3,
@@ -285,6 +292,9 @@ same-length-5 c = c .before .loop .inv .1 .size-of
 
 same-length-6 : tie.Need-same-length-6 Inv-loop μ-loop
 same-length-6 c = c .before .loop .inv .1 .bits-of
+
+same-length-7 : tie.Need-same-length-7 Inv-loop μ-loop
+same-length-7 c = c .before .loop .inv .1 .mark-of
 
 returns : tie.Need-returns Inv-loop μ-loop
 returns c = let l = c .before .loop in (all-turned (l .inv .0) (c .loop-test .left), l .inv .2)
@@ -315,8 +325,8 @@ convert-groups-to-chunks-spec =
     part-convert-group-start
     part-convert-group-end
     slice-aggregate-convert-group
-    cast-t59
-    add-t60
+    cast-t60
+    add-t61
     add-convert-group
     array-borrow-prefix-closed-2
     slice-aggregate-convert-group-2
@@ -336,4 +346,5 @@ convert-groups-to-chunks-spec =
     same-length-4
     same-length-5
     same-length-6
+    same-length-7
     returns)

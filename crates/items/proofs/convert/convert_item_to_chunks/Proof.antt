@@ -20,7 +20,7 @@ use Rattle.items.proofs.convert.convert_item_to_chunks.Tie as tie
 -- ---- what is known once what is left is kept
 
 abbrev start : tie.After-keep-left → tie.Start
-start c = c .before .before .before .before .before .before .before .before .before .before .before .before .before .before .before
+start c = c .before .before .before .before .before .before .before .before .before .before .before .before .before .before .before .before
 
 abbrev tables : tie.Start → Tables
 tables s = record { bytes = s .args .bytes .now; offsets = s .args .offsets .now; sizes = s .args .sizes .now; rank = s .args .rank .now }
@@ -32,6 +32,7 @@ work s = record {
   name-of = s .args .name-of .now;
   size-of = s .args .size-of .now;
   bits-of = s .args .bits-of .now;
+  mark-of = s .args .mark-of .now;
 }
 
 abbrev left : tie.Start → List ℕ
@@ -51,7 +52,7 @@ some c h = omega (arith, c .keep-left .ensures .number)
 
 keep-left-requires : tie.Need-keep-left-requires
 keep-left-requires c κs =
-    c .before .before .before .before .before .before .before .before .before .before .before .before .before .before .pre .1
+    c .before .before .before .before .before .before .before .before .before .before .before .before .before .before .before .pre .1
 
 same-length : tie.Need-same-length
 same-length c = search needs
@@ -101,7 +102,7 @@ slice-aggregate-emit-item c = kept-length (c .before .before .before .before .be
 
 emit-item-requires : tie.Need-emit-item-requires
 emit-item-requires c κs =
-    let tested = c .before .before .before .before .before .before in
+    let tested = c .before .before .before .before .before .before .before in
     let kept = tested .before .before .before .before .before .before .before in
     let s = start kept in
     let e = kept .keep-left .ensures in
@@ -131,10 +132,13 @@ same-length-9 c = search needs
 same-length-10 : tie.Need-same-length-10
 same-length-10 c = search needs
 
+same-length-11 : tie.Need-same-length-11
+same-length-11 c = search needs
+
 returns-3 : tie.Need-returns-3
 returns-3 c =
-    let called = c .before .before .before .before .before .before .before .before .before .before .before .before in
-    let tested = called .before .before .before .before .before .before .before in
+    let called = c .before .before .before .before .before .before .before .before .before .before .before .before .before .before in
+    let tested = called .before .before .before .before .before .before .before .before in
     let kept = tested .before .before .before .before .before .before .before in
     let s = start kept in
     let e = kept .keep-left .ensures in
@@ -170,4 +174,5 @@ convert-item-to-chunks-spec =
     same-length-8
     same-length-9
     same-length-10
+    same-length-11
     returns-3)

@@ -14,7 +14,7 @@ use Rattle.items.proofs.convert.emit_item.Tie as tie
 -- ---- what is known once the maximum is compared
 
 abbrev start : tie.After-over-limit → tie.Start
-start c = c .before .before .before .before .before .before .before .before .before .before .before .before
+start c = c .before .before .before .before .before .before .before .before .before .before .before .before .before
 
 abbrev tables : tie.Start → Tables
 tables s = record { bytes = s .args .bytes .now; offsets = s .args .offsets .now; sizes = s .args .sizes .now; rank = s .args .rank .now }
@@ -51,7 +51,7 @@ enum-told c = search needs
 
 emit-chunk-requires : tie.Need-emit-chunk-requires
 emit-chunk-requires c κs =
-    let compared = c .before .before .before .before .before .before .before .before in
+    let compared = c .before .before .before .before .before .before .before .before .before in
     let p = start compared .pre in
     (whole-room (p .0) (p .1 .some), whole-number (p .0) (p .1 .some))
 
@@ -75,14 +75,14 @@ same-length-6 c = search needs
 
 returns : tie.Need-returns
 returns c =
-    let emitted = c .before .before .before .before .before .before .before .before .before .before in
-    let told = emitted .before .before .before .before .before .before .before in
+    let emitted = c .before .before .before .before .before .before .before .before .before .before .before .before in
+    let told = emitted .before .before .before .before .before .before .before .before in
     let compared = told .before .before in
     let s = start compared in
     whole-converted (tables s) (s .args .members .now) (s .pre .1 .whole) (by compared (told .enum-told .given .1)) (emitted .emit-chunk .ensures)
 
 emit-over-maximum-requires : tie.Need-emit-over-maximum-requires
-emit-over-maximum-requires c κs = start (c .before .before .before .before .before .before .before .before .before .before .before) .pre
+emit-over-maximum-requires c κs = start (c .before .before .before .before .before .before .before .before .before .before .before .before) .pre
 
 same-length-7 : tie.Need-same-length-7
 same-length-7 c = search needs
@@ -104,12 +104,12 @@ same-length-12 c = search needs
 
 returns-2 : tie.Need-returns-2
 returns-2 c =
-    let called = c .before .before .before .before .before .before .before .before .before .before .before .before in
-    let tested = called .before .before .before .before .before .before .before in
+    let called = c .before .before .before .before .before .before .before .before .before .before .before .before .before .before in
+    let tested = called .before .before .before .before .before .before .before .before in
     same-converted (anew (tested .before .before .before) (tested .if1 .taken)) (called .emit-over-maximum .ensures)
 
 emit-over-maximum-requires-2 : tie.Need-emit-over-maximum-requires-2
-emit-over-maximum-requires-2 c κs = start (c .before .before .before .before .before .before .before .before .before .before .before) .pre
+emit-over-maximum-requires-2 c κs = start (c .before .before .before .before .before .before .before .before .before .before .before .before) .pre
 
 same-length-13 : tie.Need-same-length-13
 same-length-13 c = search needs
@@ -129,10 +129,19 @@ same-length-17 c = search needs
 same-length-18 : tie.Need-same-length-18
 same-length-18 c = search needs
 
+same-length-19 : tie.Need-same-length-19
+same-length-19 c = search needs
+
+same-length-20 : tie.Need-same-length-20
+same-length-20 c = search needs
+
+same-length-21 : tie.Need-same-length-21
+same-length-21 c = search needs
+
 returns-3 : tie.Need-returns-3
 returns-3 c =
-    let called = c .before .before .before .before .before .before .before .before .before .before .before .before in
-    let tested = called .before .before .before .before .before .before .before in
+    let called = c .before .before .before .before .before .before .before .before .before .before .before .before .before .before in
+    let tested = called .before .before .before .before .before .before .before .before in
     same-converted (anew (tested .before .before .before) (tested .if1 .left)) (called .emit-over-maximum2 .ensures)
 
 pub emit-item-spec : {M : Type 1} → statement M
@@ -149,20 +158,23 @@ emit-item-spec =
     same-length-4
     same-length-5
     same-length-6
+    same-length-7
     returns
     emit-over-maximum-requires
-    same-length-7
     same-length-8
     same-length-9
     same-length-10
     same-length-11
     same-length-12
-    returns-2
-    emit-over-maximum-requires-2
     same-length-13
     same-length-14
+    returns-2
+    emit-over-maximum-requires-2
     same-length-15
     same-length-16
     same-length-17
     same-length-18
+    same-length-19
+    same-length-20
+    same-length-21
     returns-3)

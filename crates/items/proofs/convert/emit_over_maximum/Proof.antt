@@ -6,14 +6,14 @@ use Rattle.items.proofs.convert.emit_over_maximum.Statement.{statement}
 use Rattle.items.proofs.convert.emit_over_maximum.Tie as tie
 
 abbrev start : tie.After-in-id-order → tie.Start
-start c = c .before .before .before .before .before .before .before .before .before .before .before .before .before
+start c = c .before .before .before .before .before .before .before .before .before .before .before .before .before .before
 
 in-id-order-requires : tie.Need-in-id-order-requires
 in-id-order-requires c κs = search needs
 
 emit-oversized-requires : tie.Need-emit-oversized-requires
 emit-oversized-requires c κs =
-    let ordered = c .before .before .before .before .before .before .before .before in
+    let ordered = c .before .before .before .before .before .before .before .before .before in
     let s = start ordered in
     order-ready (s .pre .0) (s .pre .1 .some) (ordered .in-id-order .ensures) (s .pre .1 .whole)
 
@@ -35,10 +35,13 @@ same-length-5 c = search needs
 same-length-6 : tie.Need-same-length-6
 same-length-6 c = search needs
 
+same-length-7 : tie.Need-same-length-7
+same-length-7 c = search needs
+
 returns : tie.Need-returns
 returns c =
-    let called = c .before .before .before .before .before .before .before .before .before .before in
-    let ordered = called .before .before .before .before .before .before .before .before .before in
+    let called = c .before .before .before .before .before .before .before .before .before .before .before .before in
+    let ordered = called .before .before .before .before .before .before .before .before .before .before in
     let s = start ordered in
     let a = s .args in
     let e = ordered .in-id-order .ensures in
@@ -56,4 +59,5 @@ emit-over-maximum-spec =
     same-length-4
     same-length-5
     same-length-6
+    same-length-7
     returns)

@@ -5,10 +5,10 @@ use Rattle.largestlist.proofs.chunks.chunks.Statement.{statement}
 use Rattle.largestlist.proofs.chunks.chunks.Tie as tie
 
 abbrev Inv-loop : tie.InvT-loop
-Inv-loop count chunk-of next-of first-of group-of name-of size-of bits-of i₀ i = Unit {0}
+Inv-loop count chunk-of next-of first-of group-of name-of size-of bits-of mark-of i₀ i = Unit {0}
 
 abbrev μ-loop : tie.MeasureT-loop
-μ-loop count chunk-of next-of first-of group-of name-of size-of bits-of i₀ i = count - i
+μ-loop count chunk-of next-of first-of group-of name-of size-of bits-of mark-of i₀ i = count - i
 
 loop-holds : tie.Need-loop-holds Inv-loop μ-loop
 loop-holds c = search needs

@@ -5,10 +5,10 @@ use Rattle.listform.proofs.list.chunks.Statement.{statement}
 use Rattle.listform.proofs.list.chunks.Tie as tie
 
 abbrev Inv-loop : tie.InvT-loop
-Inv-loop count n chunk-of next-of first-of group-of name-of size-of bits-of good₀ i₀ good i = Unit {0}
+Inv-loop count n chunk-of next-of first-of group-of name-of size-of bits-of mark-of good₀ i₀ good i = Unit {0}
 
 abbrev μ-loop : tie.MeasureT-loop
-μ-loop count n chunk-of next-of first-of group-of name-of size-of bits-of good₀ i₀ good i = count - i
+μ-loop count n chunk-of next-of first-of group-of name-of size-of bits-of mark-of good₀ i₀ good i = count - i
 
 loop-holds : tie.Need-loop-holds Inv-loop μ-loop
 loop-holds c = search needs

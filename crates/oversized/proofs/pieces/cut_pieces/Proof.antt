@@ -7,23 +7,26 @@ use native.Mathlib.Omega.{arith}
 use borrow.Author.Needs.{needs}
 use lib.ListN.{length, getD, take, drop, length-drop, length-set}
 use lib.Seq.{length-take-le}
-use Rattle.cut.specs.Cut.{none, cut}
+use Rattle.cut.specs.Cut.{fewerThanTwo, noneAllowed, cut}
 use Rattle.cut.specs.Call.{chosenOf}
 use Rattle.oversized.specs.Neighbours.{Neighbours}
-use Rattle.oversized.proofs.Areas.{Turning, area-start, area-done, area-within, area-below, area-room, starts-room, sizes-room, area-answer}
+use Rattle.oversized.proofs.Areas.{Turning, area-start, area-done, area-within, area-below, area-room, starts-room, sizes-room, marks-room, area-answer}
 use Rattle.oversized.proofs.Areas.{area-taken, area-taken-less, area-middle, area-space, area-cut, area-cut-less}
+use Rattle.oversized.proofs.Told.{told-none}
 use Rattle.oversized.proofs.pieces.cut_pieces.Statement.{statement}
 use Rattle.oversized.proofs.pieces.cut_pieces.Tie as tie
 
 abbrev Inv-loop : tie.InvT-loop
-Inv-loop similar sums total minimum maximum starts₀ piece-sizes₀ n top₀ end₀ count₀ starts piece-sizes top end count =
-    ((m : Neighbours similar sums total) → Turning m minimum maximum starts piece-sizes top end count)
+Inv-loop similar sums total minimum maximum starts₀ piece-sizes₀ marks₀ n top₀ end₀ count₀ starts piece-sizes marks top end count =
+    ((m : Neighbours similar sums total) → Turning m minimum maximum starts piece-sizes marks top end count)
     × (top ≤ length similar)
     × (length starts ≡ length starts₀)
     × (length piece-sizes ≡ length piece-sizes₀)
+    × (length marks ≡ length marks₀)
 
 abbrev μ-loop : tie.MeasureT-loop
-μ-loop similar sums total minimum maximum starts₀ piece-sizes₀ n top₀ end₀ count₀ starts piece-sizes top end count = 2 * end - (length similar - top)
+μ-loop similar sums total minimum maximum starts₀ piece-sizes₀ marks₀ n top₀ end₀ count₀ starts piece-sizes marks top end count =
+    2 * end - (length similar - top)
 
 sub-top : tie.Need-sub-top Inv-loop μ-loop
 sub-top c = omega arith
@@ -42,14 +45,19 @@ slice-write-piece-sizes c = omega arith
 
 loop-holds : tie.Need-loop-holds Inv-loop μ-loop
 loop-holds c =
-    let s = c .before .before .before .before in
-    let p = s .pre in
-    (λ m. area-start m _ _ (s .args .starts .now) (s .args .piece-sizes .now) (p .some) (p .starts-room) (p .sizes-room), omega arith, refl, refl)
+    let s = c .before .before .before .before .before in
+    let p = s .pre in (
+      λ m. area-start m _ _ (s .args .starts .now) (s .args .piece-sizes .now) (s .args .marks .now) (p .some) (p .starts-room) (p .sizes-room) (p .marks-room),
+      omega arith,
+      refl,
+      refl,
+      refl,
+    )
 
 -- ---- what each turn begins with
 
 abbrev entry : tie.In-loop Inv-loop μ-loop → tie.Start Inv-loop μ-loop
-entry d = d .before .before .before .before .before .before
+entry d = d .before .before .before .before .before .before .before
 
 abbrev inside : (d : tie.In-loop Inv-loop μ-loop) → d .before .loop .top < length (entry d .args .similar .now)
 inside d = d .loop-test .taken
@@ -71,6 +79,9 @@ in-starts d = let m = entry d .pre .modules in starts-room m _ _ (d .before .loo
 
 in-sizes : (d : tie.In-loop Inv-loop μ-loop) → length (entry d .args .similar .now) ≤ length (d .before .loop .piece-sizes)
 in-sizes d = let m = entry d .pre .modules in sizes-room m _ _ (d .before .loop .inv .0 m) (inside d)
+
+in-marks : (d : tie.In-loop Inv-loop μ-loop) → length (entry d .args .similar .now) ≤ length (d .before .loop .marks)
+in-marks d = let m = entry d .pre .modules in marks-room m _ _ (d .before .loop .inv .0 m) (inside d)
 
 in-sums : (d : tie.In-loop Inv-loop μ-loop) → length (entry d .args .sums .now) ≡ length (entry d .args .similar .now)
 in-sums d = let m = entry d .pre .modules in m .summed .as-many ∙ sym (m .compared .as-many)
@@ -129,46 +140,48 @@ cut-within-requires c κs =
 enum-known-answer : tie.Need-enum-known-answer Inv-loop μ-loop
 enum-known-answer c = search needs
 
-enum-told : tie.Need-enum-told Inv-loop μ-loop
-enum-told c = search needs
+mark-by-requires : tie.Need-mark-by-requires Inv-loop μ-loop
+mark-by-requires c κs = search needs
 
 end-piece-requires : tie.Need-end-piece-requires Inv-loop μ-loop
 end-piece-requires c κs =
-    let d = c .before .before .before .before .before .before .before .before .before in
+    let d = c .before .before .before .before .before .before .before .before .before .before in
     record {
       starts-room = omega (arith, below d, room d, in-starts d);
       sizes-room = omega (arith, below d, room d, in-sizes d);
+      marks-room = omega (arith, below d, room d, in-marks d);
       fits = omega (arith, below d, short d);
     }
 
 add-count : tie.Need-add-count Inv-loop μ-loop
 add-count c =
-    let d = c .before .before .before .before .before .before .before .before .before .before .before .before .before .before in
+    let d = c .before .before .before .before .before .before .before .before .before .before .before .before .before .before .before .before .before in
     omega (arith, room d, entry d .pre .few)
 
 add-top : tie.Need-add-top Inv-loop μ-loop
 add-top c =
-    let d = c .before .before .before .before .before .before .before .before .before .before .before .before .before .before in
+    let d = c .before .before .before .before .before .before .before .before .before .before .before .before .before .before .before .before .before in
     omega (arith, inside d, entry d .pre .few)
 
 loop-less : tie.Need-loop-less Inv-loop μ-loop
 loop-less c =
-    let d = c .before .before .before .before .before .before .before .before .before .before .before .before .before .before in
+    let d = c .before .before .before .before .before .before .before .before .before .before .before .before .before .before .before .before .before in
     let m = entry d .pre .modules in
     area-taken-less m _ _ (d .before .loop .inv .0 m) (inside d)
 
 loop-again : tie.Need-loop-again Inv-loop μ-loop
 loop-again c =
-    let f = c .before .before .before .before .before .before .before in
-    let d = f .before .before .before .before .before .before .before in
+    let f = c .before .before .before .before .before .before .before .before .before .before .before in
+    let d = f .before .before .before .before .before .before in
     let v = d .before .loop .inv in
-    let e = c .before .before .before .before .end-piece .ensures in (
-      λ m. rw (e .begins, e .sized) (area-taken m _ _ (v .0 m) (inside d)
-          (area-answer m _ _ (v .0 m) (inside d) none
-          (λ k. sym (ap chosenOf (f .enum-told .given .1)) ∙ f .before .before .cut-within .ensures k))),
+    let e = c .before .before .before .before .before .before .end-piece .ensures in (
+      λ m. rw (e .begins, e .sized, e .marked, c .before .before .before .before .before .before .before .before .before .before .mark-by .ensures)
+          (area-taken m _ _ (v .0 m) (inside d) _ (told-none (f .before .cut-within .result) (f .match .keys2))
+          (area-answer m _ _ (v .0 m) (inside d) _ (λ k. f .before .cut-within .ensures k))),
       omega (arith, inside d),
       ap length (e .begins) ∙ simp length-set (simp length-set at (v .2)),
       ap length (e .sized) ∙ simp length-set (simp length-set at (v .3)),
+      ap length (e .marked) ∙ simp length-set (v .4),
     )
 
 push-pieces-requires : tie.Need-push-pieces-requires Inv-loop μ-loop
@@ -225,6 +238,7 @@ loop-again-2 c =
       omega (arith, inside d),
       ap length (e .begins) ∙ simp length-set (simp length-set at (v .2)),
       ap length (e .sized) ∙ simp length-set (simp length-set at (v .3)),
+      v .4,
     )
 
 same-length : tie.Need-same-length Inv-loop μ-loop
@@ -232,6 +246,9 @@ same-length c = c .before .loop .inv .2 ∙ simp length-set
 
 same-length-2 : tie.Need-same-length-2 Inv-loop μ-loop
 same-length-2 c = c .before .loop .inv .3 ∙ simp length-set
+
+same-length-3 : tie.Need-same-length-3 Inv-loop μ-loop
+same-length-3 c = c .before .loop .inv .4
 
 returns : tie.Need-returns Inv-loop μ-loop
 returns c m = area-done m _ _ (c .before .loop .inv .0 m) (omega arith)
@@ -263,7 +280,7 @@ cut-pieces-spec =
     part-cut-within-end-2
     cut-within-requires
     enum-known-answer
-    enum-told
+    mark-by-requires
     end-piece-requires
     add-count
     add-top
@@ -275,4 +292,5 @@ cut-pieces-spec =
     loop-again-2
     same-length
     same-length-2
+    same-length-3
     returns)

@@ -25,12 +25,15 @@ same-length-3 c = search needs
 same-length-4 : tie.Need-same-length-4
 same-length-4 c = search needs
 
+same-length-5 : tie.Need-same-length-5
+same-length-5 c = search needs
+
 returns : tie.Need-returns
 returns c =
-    let cutting = c .before .before .before .before in
-    let summing = cutting .before .before .before .before .before .before .before in
+    let cutting = c .before .before .before .before .before .before in
+    let summing = cutting .before .before .before .before .before .before .before .before in
     let comparing = summing .before .before .before .before in
-    let s = comparing .before .before .before .before .before .before .before .before .before .before in
+    let s = comparing .before .before .before .before .before .before .before .before .before .before .before in
     let modules : Neighbours (comparing .fill-similar .last .1 .1 .1 .0) (summing .fill-sums .last .1 .1 .0) (s .args .total) =
     record {
       bytes = s .args .bytes .now;
@@ -55,4 +58,5 @@ split-oversized-spec =
     same-length-2
     same-length-3
     same-length-4
+    same-length-5
     returns)

@@ -53,6 +53,7 @@ impl Page<'_> {
             chunk.size
         );
         html.push_str(&self.heading(chunk));
+        html.push_str(&too_large(chunk));
         html.push_str(&self.bar(chunk));
         html.push_str(&self.modules(chunk));
         html.push_str(&self.why(chunk));
@@ -169,6 +170,12 @@ impl Page<'_> {
              <div class=\"reading\"><p>{NOT_PROVED}</p>\n{after}</div>\n</section>\n"
         )
     }
+}
+
+/// Why a chunk is above its maximum. It is the library's answer, so it stands apart from what isn't proved.
+fn too_large(chunk: &ShownChunk) -> String {
+    let line = |why: &String| format!("<p class=\"too-large\">{}</p>\n", escaped(why));
+    chunk.too_large.as_ref().map_or(String::new(), line)
 }
 
 /// An option as a row.
