@@ -54,7 +54,6 @@ fn show_table(
     group_of: &[u32; 128],
     name_of: &[u32; 128],
     size_of: &[f64; 128],
-    mark_of: &[u8; 128],
 ) {
     match answer {
         ChunksAnswer::Refused(number) => chunktable::refused(number),
@@ -67,7 +66,6 @@ fn show_table(
                 group_of,
                 name_of,
                 size_of,
-                mark_of,
             )
         }
     }
@@ -223,7 +221,6 @@ fn show(
                 group_of,
                 name_of,
                 size_of,
-                mark_of,
             )
         }
     }

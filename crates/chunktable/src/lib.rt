@@ -1,4 +1,4 @@
-// A line for each chunk: its number, group, name, size and mark, then its modules in execution order.
+// A line for each chunk: its number, group, name and size, then its modules in execution order.
 use textform::out;
 
 pub fn refused(condition: u32) {
@@ -52,15 +52,7 @@ fn chunk_number(module: u32, chunk_of: &[u32]) {
     number(held - 1);
 }
 
-fn chunk(
-    first: u32,
-    group: u32,
-    name: u32,
-    size: f64,
-    mark: u8,
-    chunk_of: &[u32],
-    next_of: &[u32],
-) {
+fn chunk(first: u32, group: u32, name: u32, size: f64, chunk_of: &[u32], next_of: &[u32]) {
     if first == 0 {
         return;
     }
@@ -68,7 +60,6 @@ fn chunk(
     column(group);
     column(name);
     out::size(size);
-    column(mark as u32);
     modules(first, next_of);
     out::line_end();
 }
@@ -82,7 +73,6 @@ fn record(
     group_of: &[u32],
     name_of: &[u32],
     size_of: &[f64],
-    mark_of: &[u8],
 ) {
     if at >= first_of.len() {
         return;
@@ -96,15 +86,11 @@ fn record(
     if at >= size_of.len() {
         return;
     }
-    if at >= mark_of.len() {
-        return;
-    }
     chunk(
         first_of[at],
         group_of[at],
         name_of[at],
         size_of[at],
-        mark_of[at],
         chunk_of,
         next_of,
     );
@@ -119,21 +105,11 @@ pub fn chunks(
     group_of: &[u32],
     name_of: &[u32],
     size_of: &[f64],
-    mark_of: &[u8],
 ) {
-    out::text(b"chunk group name size mark modules\n");
+    out::text(b"chunk group name size modules\n");
     let mut at = 0;
     while at < count {
-        record(
-            at,
-            chunk_of,
-            next_of,
-            first_of,
-            group_of,
-            name_of,
-            size_of,
-            mark_of,
-        );
+        record(at, chunk_of, next_of, first_of, group_of, name_of, size_of);
         at = at + 1;
     }
 }

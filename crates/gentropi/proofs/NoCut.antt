@@ -9,10 +9,10 @@ use Rattle.cut.specs.Call.{chosenOf}
 use Rattle.cut.specs.declared.Cut.{Cut}
 use Rattle.cut.specs.declared.Cut.the-variants.{FewerThanTwo, NoneAllowed, At}
 use Rattle.cut.proofs.Cut.{the-type}
-use Rattle.gentropi.specs.After.{CutPlaces, whyNone, withoutCut, cutAfter}
+use Rattle.gentropi.specs.After.{CutPlaces, whyNumber, withoutCut, cutAfter}
 
 pub without-cut : (chosen : Cut) → (tagOf the-type chosen ≡ 0) ⊎ (tagOf the-type chosen ≡ 1) → (p : CutPlaces)
-    → withoutCut (whyNone (chosenOf chosen)) p ≡ cutAfter (accepted (chosenOf chosen)) p
+    → withoutCut (whyNumber (chosenOf chosen)) p ≡ cutAfter (accepted (chosenOf chosen)) p
 without-cut FewerThanTwo h p = refl
 without-cut NoneAllowed h p = refl
 without-cut (At c) h p =

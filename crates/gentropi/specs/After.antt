@@ -31,10 +31,10 @@ pub record CutPlaces : Type 0 where
   pub right : Float
 
 -- 1 for fewer than two modules, 2 for no allowed cut
-abbrev pub whyNone : Chosen → ℕ
-whyNone fewerThanTwo = 1
-whyNone noneAllowed = 2
-whyNone (cut i l r) = 0
+abbrev pub whyNumber : Chosen → ℕ
+whyNumber fewerThanTwo = 1
+whyNumber noneAllowed = 2
+whyNumber (cut i l r) = 0
 
 -- no cut leaves the index and the sizes as they were
 abbrev pub withoutCut : ℕ → CutPlaces → CutPlaces
@@ -42,9 +42,9 @@ withoutCut why p = record { why-none = why; index = p .index; left = p .left; ri
 
 abbrev pub cutAfter : Outcome Chosen → CutPlaces → CutPlaces
 cutAfter (refused n) p = p
-cutAfter (accepted fewerThanTwo) p = withoutCut (whyNone fewerThanTwo) p
-cutAfter (accepted noneAllowed) p = withoutCut (whyNone noneAllowed) p
-cutAfter (accepted (cut i l r)) p = record { why-none = whyNone (cut i l r); index = i; left = l; right = r }
+cutAfter (accepted fewerThanTwo) p = withoutCut (whyNumber fewerThanTwo) p
+cutAfter (accepted noneAllowed) p = withoutCut (whyNumber noneAllowed) p
+cutAfter (accepted (cut i l r)) p = record { why-none = whyNumber (cut i l r); index = i; left = l; right = r }
 
 -- a limit handed over as a bool beside a double, and a least share count as a bool beside a number
 abbrev pub limitGiven : Bool → Float → Limit

@@ -3,7 +3,7 @@ use cut::Cut;
 use cut::CutAnswer;
 ghost use mathlib.Core.Path.{_≡_};
 ghost use Rattle.cut.specs.Call.{cutCall, chosenOf};
-ghost use Rattle.gentropi.specs.After.{whyNone, CutExport};
+ghost use Rattle.gentropi.specs.After.{whyNumber, CutExport};
 
 // What stands for each answer: there is a cut, there are fewer than two modules, or no cut is allowed.
 const FOUND: u8 = 0;
@@ -13,7 +13,7 @@ const FEWER_THAN_TWO: u8 = 1;
 const NONE_ALLOWED: u8 = 2;
 
 fn why_none_of(chosen: Cut) -> u8
-    ensures { λ r. ⌜ r ≡ whyNone (chosenOf chosen) ⌝ }
+    ensures { λ r. ⌜ r ≡ whyNumber (chosenOf chosen) ⌝ }
 {
     match chosen {
         Cut::FewerThanTwo => FEWER_THAN_TWO,

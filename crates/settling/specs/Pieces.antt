@@ -38,12 +38,13 @@ unfoldable pub piecesOf : Cutting → List ℕ → List (List ℕ)
 unfolding piecesFrom
 piecesOf c l = piecesFrom (suc (length l)) c l
 
--- the mark of elements of a size above the maximum by the answer of the cut, and of any others
+-- the mark of what is above the maximum, by the answer of its cut
 abbrev pub whyWhole : Chosen → ℕ
 whyWhole fewerThanTwo = 1
 whyWhole noneAllowed = 2
 whyWhole (cut i left right) = 3
 
+-- the mark by a size and the answer of the cut
 abbrev pub markBy : Float → Float → Chosen → ℕ
 markBy maximum size answer = cond (lt maximum size) (whyWhole answer) 0
 

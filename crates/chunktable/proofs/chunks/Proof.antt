@@ -5,10 +5,10 @@ use Rattle.chunktable.proofs.chunks.Statement.{statement}
 use Rattle.chunktable.proofs.chunks.Tie as tie
 
 abbrev Inv-loop : tie.InvT-loop
-Inv-loop count chunk-of next-of first-of group-of name-of size-of mark-of at₀ at = at ≤ count
+Inv-loop count chunk-of next-of first-of group-of name-of size-of at₀ at = at ≤ count
 
 abbrev μ-loop : tie.MeasureT-loop
-μ-loop count chunk-of next-of first-of group-of name-of size-of mark-of at₀ at = count - at
+μ-loop count chunk-of next-of first-of group-of name-of size-of at₀ at = count - at
 
 slice-aggregate-text : tie.Need-slice-aggregate-text Inv-loop μ-loop
 slice-aggregate-text c = search needs

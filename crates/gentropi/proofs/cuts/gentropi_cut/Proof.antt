@@ -5,7 +5,7 @@ use borrow.Author.Needs.{needs}
 use Rattle.cut.specs.Call.{chosenOf, outcomeOf}
 use Rattle.cut.specs.declared.Cut.{Cut}
 use Rattle.cut.specs.declared.CutAnswer.the-variants.{Answered}
-use Rattle.gentropi.specs.After.{CutPlaces, whyNone, withoutCut, cutAfter}
+use Rattle.gentropi.specs.After.{CutPlaces, whyNumber, withoutCut, cutAfter}
 use Rattle.gentropi.proofs.Answering.{number-of, places-after}
 use Rattle.gentropi.proofs.NoCut.{without-cut}
 use Rattle.gentropi.proofs.cuts.gentropi_cut.Statement.{statement}
@@ -59,7 +59,7 @@ returns-3 c =
       number = number-of same;
       places =
           ap (λ (n : ℕ). record { why-none = n; index = point .index; left = point .«left_size»; right = point .«right_size» })
-          (c .before .before .before .why-none-of .ensures ∙ ap (λ (x : Cut). whyNone (chosenOf x)) (c .before .chosen .given .1))
+          (c .before .before .before .why-none-of .ensures ∙ ap (λ (x : Cut). whyNumber (chosenOf x)) (c .before .chosen .given .1))
           ∙ places-after same cutAfter (before s);
     }
 
