@@ -20,17 +20,16 @@ pub fn is_eligible_at(flags: &[u8], m: ModuleIdx) -> bool
     flags[m.0 as usize] & 7 == 3
 }
 
-// Refusal 9: a flag byte above 7 among n modules.
+// Refusal 9: a flag byte above 7 among n modules. All are looked at, also behind one that is refused: so several are compared at once.
 pub fn bad_flags(flags: &[u8], n: usize) -> bool
     requires { ⌜ n ≤ length (now flags) ⌝ }
     ensures { λ r. ⌜ r ≡ badFlags (now (flags .entry)) n ⌝ }
 {
+    let mut bad = false;
     let mut m = 0;
     while m < n {
-        if 7 < flags[m] {
-            return true;
-        }
+        bad = (7 < flags[m]) | bad;
         m = m + 1;
     }
-    false
+    bad
 }

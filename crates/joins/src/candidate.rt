@@ -70,10 +70,14 @@ impl Candidate {
         self.number < other.number
     }
 
-    // Whether the first words alone rule another set out: they tell it from the wanted one by more entries than this one has.
+    // Whether the first words alone rule another set out: they tell it from the wanted one by more entries than this one has. A word has 64 entries, so
+    // none is counted where this one has as many.
     pub fn rules_out(self, wanted: u64, other: u64) -> bool
         ensures { λ r. ⌜ r ≡ ltb (self .distance) (onesApart wanted other) ⌝ }
     {
+        if 64 <= self.distance {
+            return false;
+        }
         self.distance < u64::count_ones(wanted ^ other)
     }
 

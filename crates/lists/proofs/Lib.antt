@@ -37,3 +37,4 @@ pub mod Packed
 pub mod SortPacked
 pub mod SortNumbers
 pub mod Blocks
+pub mod NoBits

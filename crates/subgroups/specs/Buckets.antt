@@ -11,7 +11,7 @@ use Rattle.grouping.specs.Subgroups.{sameBits}
 
 -- how many buckets there are
 abbrev pub bucketCount : ℕ
-bucketCount = 509
+bucketCount = 2039
 
 -- a sum in 64 bits
 abbrev pub wrapped : ℕ → ℕ → ℕ
@@ -23,7 +23,7 @@ mixedWith mixed word = wrapped (wrapped (wrapped (wrapped mixed mixed) (wrapped 
 
 -- the bucket of a set: the remainder of its mixed words by a prime
 unfoldable pub bucketOf : BitSet → ℕ
-bucketOf s = mixedWith (mixedWith (mixedWith (wordAt s 3) (wordAt s 2)) (wordAt s 1)) (wordAt s 0) % 509
+bucketOf s = mixedWith (mixedWith (mixedWith (wordAt s 3) (wordAt s 2)) (wordAt s 1)) (wordAt s 0) % 2039
 
 -- the bucket of kind i
 abbrev pub bucketAt : List ℕ → ℕ → ℕ

@@ -44,7 +44,7 @@ fn bucket_of(bits: BitSet) -> usize
     ensures { λ r. ⌜ r ≡ bucketOf bits ⌝ }
 {
     let w = bits.words;
-    (mix(mix(mix(w[3], w[2]), w[1]), w[0]) % 509) as usize
+    (mix(mix(mix(w[3], w[2]), w[1]), w[0]) % 2039) as usize
 }
 
 // The number of the kind that has these bits, and the count of kinds if none has. Only kinds of the bits' bucket are looked at, the last first. Heads
@@ -138,7 +138,7 @@ pub fn find_kinds(
     ensures { λ r. ⌜ KindsFound (now (bits .entry)) (now (sizes .entry)) (now (set .entry)) r
         (now («kind_of» .exit)) (now («kind_sizes» .exit)) (now («kind_bits» .exit)) ⌝ }
 {
-    let mut heads = [0u32; 509];
+    let mut heads = [0u32; 2039];
     let mut count = 0;
     let mut i = 0;
     while i < set.len() {

@@ -32,7 +32,7 @@ returns : tie.Need-returns
 unfolding bucketOf
 returns c =
     let s = c .before .before .before .before .args .bits in
-    ap (λ (x : ℕ). x % 509)
+    ap (λ (x : ℕ). x % 2039)
     (c .mix3 .ensures
     ∙ ap (λ (x : ℕ). mixedWith x (wordAt s 0)) (c .before .mix2 .ensures ∙ ap (λ (x : ℕ). mixedWith x (wordAt s 1)) (c .before .before .mix .ensures)))
 
