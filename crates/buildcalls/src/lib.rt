@@ -1,4 +1,6 @@
 // One call of Chunks, and its answer.
+#![tactic(auto)]
+
 ghost use Rattle.std.specs.Prelude.{◌≤◌};
 
 use chunks::ChunksAnswer;

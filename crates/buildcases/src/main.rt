@@ -2,6 +2,8 @@
 // every lent area is looked at.
 // Limits: an input of less than 1,048,576 bytes; in a case 64 modules, 96 groups, 128 dependency records, 1,024 answers before the last
 // group's, 16,384 bytes of ids, areas of 128 entries, 73,728 words of scratch.
+#![tactic(auto)]
+
 mod cases;
 
 fn read_input(input: &mut [u8; 1048576]) -> usize {

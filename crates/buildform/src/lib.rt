@@ -1,4 +1,6 @@
 // Whole builds of the text form, with the lines that spoil them, read into rows of tables.
+#![tactic(auto)]
+
 pub mod damage;
 pub mod lengths;
 

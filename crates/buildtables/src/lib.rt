@@ -1,4 +1,6 @@
 // A build in the text form: read, handed over and answered.
+#![tactic(auto)]
+
 mod tables;
 
 use buildcalls::Form;

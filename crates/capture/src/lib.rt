@@ -1,4 +1,6 @@
 // The capture of a module: what it reaches along its dependencies through eligible modules.
+#![tactic(auto)]
+
 ghost use Rattle.std.specs.Prelude.{◌≡◌, ◌-◌, ◌≤◌, length};
 ghost use Rattle.refusal.specs.Counts.{record_limit};
 ghost use Rattle.refusal.specs.Outcome.{first_number};

@@ -1,4 +1,6 @@
 // The name of a chunk: its group's name, and for an entries-aware chunk the names of its entries behind it.
+#![tactic(auto)]
+
 pub mod append;
 pub mod conditions;
 pub mod full_name;

@@ -1,4 +1,6 @@
 // Runs the case of document 01 and prints it whole: modules 0 "app", 1 "lib/a", 2 "lib/b" and 3 "theme", two groups, two names.
+#![tactic(auto)]
+
 use buildcalls::Form;
 
 // Module 0 depends on 1, and 1 on 2. Group 0 gives module 1 the name 0. Group 1 gives module 0 the name 1; of its options it has recursion

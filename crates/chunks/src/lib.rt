@@ -1,4 +1,6 @@
 // The call Chunks: everything handed in is tested, and a build that is not turned away is run.
+#![tactic(auto)]
+
 ghost use Rattle.grouping.specs.Call.{ChunksCall};
 ghost use Rattle.grouping.specs.Conditions.{scratch_need};
 ghost use Rattle.chunks.specs.Answer.{outcome_of};

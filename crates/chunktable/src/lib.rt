@@ -1,4 +1,6 @@
 // A line for each chunk: its number, group, name and size, then its modules in execution order.
+#![tactic(auto)]
+
 use textform::out;
 
 pub fn refused(condition: u32) {

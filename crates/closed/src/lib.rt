@@ -1,4 +1,6 @@
 // Closed sets: a set that is in chunks whole is passed over by the walks of later sets.
+#![tactic(auto)]
+
 ghost use Rattle.std.specs.Prelude.{◌≡◌, length, replicate};
 ghost use Rattle.forget.specs.Unfollowed.{unfollowed};
 ghost use Rattle.emitting.specs.Emitted.{HasEntry};

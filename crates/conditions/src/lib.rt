@@ -1,4 +1,6 @@
 // The conditions of the call Chunks, one function each. Tests of numbers alone are joined by `|`: none needs the one before it.
+#![tactic(auto)]
+
 pub mod areas;
 pub mod bits;
 pub mod chains;

@@ -1,4 +1,6 @@
 // Dependency records laid anew, so that those of one module lie side by side: a walk then reads memory in its order.
+#![tactic(auto)]
+
 ghost use Rattle.std.specs.Prelude.{◌≡◌, true, cond, ◌-◌, ◌≤◌, length};
 ghost use Rattle.contiguous.specs.Laid.{LayReady, Laying, LayAllReady, AllLaid};
 ghost use Rattle.contiguous.specs.Jumps.{is_jump, jumps_of, worth_laying};

@@ -1,4 +1,6 @@
 // The cut of an oversized list of modules in two, by relevance of their ids and then by size.
+#![tactic(auto)]
+
 pub mod alike;
 pub mod candidate;
 pub mod given;

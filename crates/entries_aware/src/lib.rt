@@ -1,4 +1,6 @@
 // An entries-aware set turned into chunks: its subgroups are items, one after the other by the smallest id in them.
+#![tactic(auto)]
+
 ghost use Rattle.std.specs.Prelude.{◌≡◌, ◌*◌, ◌≤◌, length};
 ghost use Rattle.grouping.specs.Subgroups.{divided_items};
 ghost use Rattle.settling.specs.Traversal.{in_turn};

@@ -1,4 +1,6 @@
 // The static filter of a group: what it asks of a matched module before the module's capture is taken.
+#![tactic(auto)]
+
 ghost use Rattle.std.specs.Prelude.{◌≡◌, ◌≤◌, ◌^◌};
 ghost use Rattle.filter.specs.Filter.{shared_enough, passes, no_limit, no_minimum, asks_nothing, filter_call, outcome_of};
 

@@ -1,4 +1,6 @@
 // The flag byte of a module: 1 normal, 2 included, 4 already assigned, summed.
+#![tactic(auto)]
+
 ghost use Rattle.std.specs.Prelude.{◌≡◌, ◌≤◌, ◌<◌, length};
 ghost use Rattle.flags.specs.Flags.{listed, eligible_at, bad_flags};
 

@@ -1,4 +1,6 @@
 // The marks of followed records undone, along what was followed and no further.
+#![tactic(auto)]
+
 ghost use Rattle.std.specs.Prelude.{◌≡◌, ◌-◌, length};
 ghost use Rattle.records.specs.Chain.{chain_from};
 ghost use Rattle.lists.specs.Stored.{stored};

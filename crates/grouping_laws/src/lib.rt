@@ -1,1 +1,2 @@
 // Laws of the definition of Chunks, the renumbering rule among them. This crate has no code.
+#![tactic(auto)]

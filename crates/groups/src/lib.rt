@@ -1,2 +1,4 @@
 // The groups turned into chunks, in the order of their priority.
+#![tactic(auto)]
+
 pub mod convert;

@@ -1,4 +1,5 @@
 // The three kinds of number that are kept apart in signatures. Tables hold them as plain numbers.
+#![tactic(auto)]
 
 // The number under which the host loaded a module.
 #[derive(Drop)]

@@ -1,4 +1,6 @@
 // A run over dependency records that lie side by side: where many walks would jump about in scattered ones, these are laid anew first.
+#![tactic(auto)]
+
 ghost use Rattle.std.specs.Prelude.{◌≤◌};
 ghost use Rattle.run.specs.Ran.{Running, RunWritten};
 

@@ -4,6 +4,8 @@
 // the order 4,294,967,295 less i, the entry i % 256, and an id of two bytes; that of module 0 has 1,024 bytes. Group g matches every module i
 // with i % 64 = g, under the name 65,534 less g; its priority is g. All records stand on the chain of module 0, which so depends on every
 // module. Only group 0 captures dependencies; it comes last, so that it makes a chunk of what the others leave.
+#![tactic(auto)]
+
 pub mod counts;
 pub mod fill;
 pub mod spoil;

@@ -1,4 +1,6 @@
 // What is left of an item: chunk numbers serve as the marks of what is taken.
+#![tactic(auto)]
+
 ghost use Rattle.left.specs.Untaken.{untaken, Listed, Kept};
 
 // Writes the modules of the list that have no chunk number. Answers how many there are. Every module is written, and the next one over it unless it

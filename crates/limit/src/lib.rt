@@ -1,4 +1,6 @@
 // A limit is absent or a double. What it asks of a number, and refusal 8.
+#![tactic(auto)]
+
 ghost use Rattle.std.specs.Prelude.{◌≡◌};
 ghost use Rattle.std.specs.Float.Ieee.{is_nan};
 ghost use Rattle.limit.specs.Limits.{is_nan_limit, at_least, at_most};

@@ -1,4 +1,6 @@
 // The chains of the chunks, written once all chunks are made.
+#![tactic(auto)]
+
 ghost use Rattle.std.specs.Prelude.{◌≡◌};
 ghost use Rattle.linking.specs.Links.{pushed_at, linked, Pushable, Linkable};
 

@@ -1,4 +1,6 @@
 // The merge of small subgroups of an entries-aware set, join by join.
+#![tactic(auto)]
+
 pub mod conditions;
 pub mod engine;
 pub mod tables;

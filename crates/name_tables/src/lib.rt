@@ -1,4 +1,6 @@
 // Tables of names: a name is a part of the caller's bytes and is handed back as one.
+#![tactic(auto)]
+
 pub mod conditions;
 
 ghost use Rattle.std.specs.Prelude.{◌≡◌};

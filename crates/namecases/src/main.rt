@@ -2,6 +2,8 @@
 // in the form of the records. Every byte of the lent area is looked at; what is wrong is a line that begins with `!`.
 // Limits: an input of less than 262,144 bytes; in a case 4,097 names of groups and as many of entries, 16,384 bytes of each, and of the hash;
 // tables of 65,540 offsets, an area of 16,500 bytes.
+#![tactic(auto)]
+
 mod answers;
 mod chunk;
 mod lines;

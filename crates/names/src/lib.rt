@@ -1,4 +1,6 @@
 // The sets of one group turned into chunks, name by name.
+#![tactic(auto)]
+
 ghost use Rattle.std.specs.Prelude.{◌≡◌, ◌*◌, ◌≤◌, length};
 ghost use Rattle.forget.specs.Unfollowed.{unfollowed};
 ghost use Rattle.grouping.specs.WorkList.{items_of_set};

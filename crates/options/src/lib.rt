@@ -1,4 +1,6 @@
 // The options of a build and of its groups.
+#![tactic(auto)]
+
 pub mod force;
 pub mod nan;
 pub mod tables;

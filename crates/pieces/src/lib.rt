@@ -1,4 +1,6 @@
 // Modules above the maximum, in id order, emitted in pieces.
+#![tactic(auto)]
+
 ghost use Rattle.oversized.specs.Cutting.{Lent};
 ghost use Rattle.pieces.specs.Chunks.{chunks_of, PiecesReady, Converted};
 

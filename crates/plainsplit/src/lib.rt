@@ -1,5 +1,7 @@
 // Chunks for programs that print what comes of it: the call alone, with no contract but that it is safe and ends. What uses this crate is proved
 // without the facts of the call, which are many.
+#![tactic(auto)]
+
 use chunks::ChunksAnswer;
 use options::Options;
 

@@ -1,4 +1,6 @@
 // Dependency records: (module, next), numbered from 1, and refusal 7 over them.
+#![tactic(auto)]
+
 ghost use Rattle.std.specs.Prelude.{◌≡◌, ◌+◌, ◌≤◌, length};
 ghost use Rattle.records.specs.Chain.{chain_from};
 ghost use Rattle.records.specs.Marks.{Unmarked, KnowReady};

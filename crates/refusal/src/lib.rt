@@ -1,4 +1,5 @@
 // The limits of the counts, and the numbers of the refusals by what each says of the input or of the state.
+#![tactic(auto)]
 
 pub const MODULE_LIMIT: usize = 4096;
 

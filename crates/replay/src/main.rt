@@ -2,6 +2,8 @@
 // the form of the records. Every entry of every lent area is looked at; what is wrong is a line that begins with `!`.
 // Limits: an input of less than 1,048,576 bytes; in a case 4,097 modules or subgroups, 65,535 dependency records, 16,384 bytes of ids, areas of
 // 4,100 entries.
+#![tactic(auto)]
+
 mod cuts;
 mod filters;
 mod lines;

@@ -1,4 +1,5 @@
 // A run of Chunks over a build that has passed the tests: its chunks are made, and every area is written.
+#![tactic(auto)]
 
 ghost use Rattle.run.specs.Made.{Making, ChunksMade};
 ghost use Rattle.run.specs.Finished.{Finishing, Finished};

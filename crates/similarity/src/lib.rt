@@ -1,4 +1,6 @@
 // Similarity of two stable ids.
+#![tactic(auto)]
+
 ghost use Rattle.std.specs.Prelude.{◌≡◌, ◌≤◌, min, length};
 ghost use Rattle.similarity.specs.Similarity.{byte_score, similarity, similarity_call, outcome_of};
 

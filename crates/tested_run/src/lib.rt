@@ -1,4 +1,6 @@
 // The run of a build that has passed the tests, under the settings of its groups.
+#![tactic(auto)]
+
 ghost use Rattle.tested_run.specs.RunInput.{Runnable, TestedRan};
 
 use laid_run::run_side_by_side;

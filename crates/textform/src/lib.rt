@@ -1,4 +1,6 @@
 // The text form of calls and answers: words, numbers, doubles and bytes read, and answers written.
+#![tactic(auto)]
+
 pub mod doubles;
 pub mod numbers;
 pub mod out;

@@ -1,4 +1,6 @@
 // Sizes as whole numbers: their total against 2^53, up to which every sum is exact in a double.
+#![tactic(auto)]
+
 ghost use Rattle.std.specs.Prelude.{◌≡◌};
 ghost use Rattle.whole.specs.Total.{total_exceeds};
 

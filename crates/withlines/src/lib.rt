@@ -1,5 +1,7 @@
 // Lines that spoil a leaf call before it is handed over: `with offsets ..`, `with len TABLE LENGTH`, `with count COUNT VALUE`, `with areas ..`.
 // The text before a call is kept as it stands, and looked through for each value that a line of it may change.
+#![tactic(auto)]
+
 pub mod cases;
 pub mod lines;
 pub mod offsets;
