@@ -2,7 +2,7 @@
 ghost use Rattle.std.specs.Prelude.{◌≡◌, ◌<◌};
 ghost use Rattle.bitset.specs.Entries.{empty, has_bit, with_bit, union_of, differing, beyond};
 
-#[derive(Drop)]
+#[derive(Clone, Copy)]
 pub struct BitSet {
     pub words: [u64; 4],
 }

@@ -9,7 +9,7 @@ use options::Options;
 use textform::out;
 
 // The counts that are handed over.
-#[derive(Drop)]
+#[derive(Clone, Copy)]
 pub struct Counts {
     pub n: usize,
     pub g: usize,
@@ -20,7 +20,7 @@ pub struct Counts {
 }
 
 // How many entries of each area are lent, of bits_of in words.
-#[derive(Drop)]
+#[derive(Clone, Copy)]
 pub struct Lent {
     pub chunk_of: usize,
     pub next_of: usize,
@@ -34,7 +34,7 @@ pub struct Lent {
 }
 
 // How the answer is printed: in the text form, with what the areas show to be wrong, or as a table of the chunks.
-#[derive(Drop)]
+#[derive(Clone, Copy)]
 pub enum Form {
     Text,
     Table,

@@ -11,7 +11,7 @@ use options::Options;
 use textform::numbers;
 
 // The global options, how many bytes the ids have, and the place past the build; past every text if it can't be read.
-#[derive(Drop)]
+#[derive(Clone, Copy)]
 pub struct Build {
     pub options: Options,
     pub id_bytes: usize,
@@ -19,7 +19,7 @@ pub struct Build {
 }
 
 // How many modules, groups and dependency records the lines of a build have, and the place past its counts.
-#[derive(Drop)]
+#[derive(Clone, Copy)]
 struct Head {
     n: usize,
     g: usize,
@@ -48,7 +48,7 @@ fn read_counts(text: &[u8], at: usize, counts: &mut [usize; 6]) -> Head
 }
 
 // How many bytes the ids have and how many answers there are, and the place past the answers.
-#[derive(Drop)]
+#[derive(Clone, Copy)]
 struct Tables {
     id_bytes: usize,
     answers: usize,

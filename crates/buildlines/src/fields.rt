@@ -3,19 +3,19 @@ use filter::MinShareCount;
 use options::{Options, Recursion};
 use textform::{doubles, numbers, words};
 
-#[derive(Drop)]
+#[derive(Clone, Copy)]
 pub struct ShareField {
     pub value: MinShareCount,
     pub at: usize,
 }
 
-#[derive(Drop)]
+#[derive(Clone, Copy)]
 pub struct ChoiceField {
     pub value: Recursion,
     pub at: usize,
 }
 
-#[derive(Drop)]
+#[derive(Clone, Copy)]
 pub struct OptionsField {
     pub value: Options,
     pub at: usize,

@@ -4,7 +4,7 @@ use buildlines::rows;
 use options::Options;
 
 // How many entries of each table are handed over, of bits in words.
-#[derive(Drop)]
+#[derive(Clone, Copy)]
 struct Lengths {
     flags: usize,
     sizes: usize,

@@ -12,7 +12,7 @@ ghost use Rattle.capture.specs.Call.{bad_counts, bad_lengths, input_tests, Captu
 use index::ModuleIdx;
 use lists::fill::{clear_bytes, clear_words};
 
-#[derive(Drop)]
+#[derive(Clone, Copy)]
 pub enum CaptureAnswer {
     Refused(u32),
     Done,

@@ -10,7 +10,7 @@ ghost use Rattle.chunk_names.specs.Call.{NameCall};
 
 use bitset::entries::BitSet;
 
-#[derive(Drop)]
+#[derive(Clone, Copy)]
 pub enum NameAnswer {
     Refused(u32),
     Named(usize),

@@ -14,7 +14,7 @@ use testing::state::test_state;
 use turns::settings::all_settings;
 
 // The number of a condition that applies, or how many new chunks there are.
-#[derive(Drop)]
+#[derive(Clone, Copy)]
 pub enum ChunksAnswer {
     Refused(u32),
     Made(usize),

@@ -10,7 +10,7 @@ pub mod lengths;
 pub mod limits;
 
 // The lengths of the tables that have one entry a module, and of the bits, four words each.
-#[derive(Drop)]
+#[derive(Clone, Copy)]
 pub struct ModuleLengths {
     pub flags: usize,
     pub sizes: usize,
@@ -21,7 +21,7 @@ pub struct ModuleLengths {
 }
 
 // The lengths of the id offsets and of the tables of dependency records.
-#[derive(Drop)]
+#[derive(Clone, Copy)]
 pub struct RecordLengths {
     pub offsets: usize,
     pub first: usize,
@@ -30,7 +30,7 @@ pub struct RecordLengths {
 }
 
 // The lengths of the tables that have one entry a group.
-#[derive(Drop)]
+#[derive(Clone, Copy)]
 pub struct GroupLengths {
     pub given: usize,
     pub min_size: usize,
@@ -44,7 +44,7 @@ pub struct GroupLengths {
 }
 
 // The lengths of the lent areas: two a module, and the chunk records.
-#[derive(Drop)]
+#[derive(Clone, Copy)]
 pub struct AreaLengths {
     pub chunk_of: usize,
     pub next_of: usize,

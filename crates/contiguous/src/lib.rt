@@ -6,7 +6,7 @@ ghost use Rattle.contiguous.specs.Laid.{LayReady, Laying, LayAllReady, AllLaid};
 ghost use Rattle.contiguous.specs.Jumps.{is_jump, jumps_of, worth_laying};
 
 // Where a chain was laid: the record that it begins with, the first record behind it, and whether there was room for all of it.
-#[derive(Drop)]
+#[derive(Clone, Copy)]
 pub struct LaidChain {
     pub first: usize,
     pub end: usize,

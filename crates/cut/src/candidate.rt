@@ -4,7 +4,7 @@ ghost use Rattle.std.specs.Float.Ieee.{lt};
 ghost use Rattle.cut.specs.Candidate.{oversized, larger_side, beats_by_size, beats};
 
 // A cut at an index: the similarity of the two ids that it parts, and the sizes of its two sides.
-#[derive(Drop)]
+#[derive(Clone, Copy)]
 pub struct Candidate {
     pub index: usize,
     pub similarity: u32,

@@ -12,7 +12,7 @@ ghost use Rattle.std.specs.Prelude.{◌≡◌};
 ghost use Rattle.cut.specs.Call.{cut_call, outcome_of};
 
 // A cut: the index of the first module on the right, and the sizes of the two sides.
-#[derive(Drop)]
+#[derive(Clone, Copy)]
 pub struct CutPoint {
     pub index: usize,
     pub left_size: f64,
@@ -20,14 +20,14 @@ pub struct CutPoint {
 }
 
 // There is no cut of fewer than two modules, and of more there may be none that is allowed.
-#[derive(Drop)]
+#[derive(Clone, Copy)]
 pub enum Cut {
     FewerThanTwo,
     NoneAllowed,
     At(CutPoint),
 }
 
-#[derive(Drop)]
+#[derive(Clone, Copy)]
 pub enum CutAnswer {
     Refused(u32),
     Answered(Cut),

@@ -8,14 +8,14 @@ use crate::candidate::Candidate;
 use crate::{Cut, CutPoint};
 
 // The best of the allowed cuts that were looked at.
-#[derive(Drop)]
+#[derive(Clone, Copy)]
 pub enum Best {
     Nothing,
     Found(Candidate),
 }
 
 // The least size that a side reaches, and the size above which it is too large.
-#[derive(Drop)]
+#[derive(Clone, Copy)]
 pub struct Bounds {
     pub minimum: f64,
     pub maximum: f64,

@@ -9,7 +9,7 @@ use bitset::table::store_row;
 use index::ChunkIdx;
 
 // What all chunks of an item share. An entries-aware item has its subgroup's bits.
-#[derive(Drop)]
+#[derive(Clone, Copy)]
 pub struct Head {
     pub group: u32,
     pub name: u32,

@@ -7,14 +7,14 @@ ghost use Rattle.filter.specs.Filter.{shared_enough, passes, no_limit, no_minimu
 use limit::Limit;
 
 // The least share count that is asked for, if one is.
-#[derive(Drop)]
+#[derive(Clone, Copy)]
 pub enum MinShareCount {
     Absent,
     Given(u32),
 }
 
 // The limits in force for a group, and the tags that it asks for.
-#[derive(Drop)]
+#[derive(Clone, Copy)]
 pub struct StaticFilter {
     pub tags: u64,
     pub min_module_size: Limit,
@@ -22,7 +22,7 @@ pub struct StaticFilter {
     pub min_share_count: MinShareCount,
 }
 
-#[derive(Drop)]
+#[derive(Clone, Copy)]
 pub enum Filtered {
     Refused(u32),
     Passes(bool),

@@ -2,13 +2,13 @@
 #![tactic(auto)]
 
 // The number under which the host loaded a module.
-#[derive(Drop)]
+#[derive(Clone, Copy)]
 pub struct ModuleIdx(pub u32);
 
 // The number of a chunk, counted on from the chunks on entry.
-#[derive(Drop)]
+#[derive(Clone, Copy)]
 pub struct ChunkIdx(pub u32);
 
 // The number of a dependency record. Record 0 ends a chain and is never read.
-#[derive(Drop)]
+#[derive(Clone, Copy)]
 pub struct RecordIdx(pub u32);

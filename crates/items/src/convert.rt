@@ -14,7 +14,7 @@ use oversized::order::in_id_order;
 use pieces::emit_oversized;
 
 // The two limits in force for the size of a chunk.
-#[derive(Drop)]
+#[derive(Clone, Copy)]
 pub struct Limits {
     pub minimum: f64,
     pub maximum: Limit,

@@ -8,7 +8,7 @@ use bitset::entries::BitSet;
 use bitset::table::row;
 
 // A subgroup's number, its size, and how many entries tell it from the seeker: 0 while a seeker is looked for.
-#[derive(Drop)]
+#[derive(Clone, Copy)]
 pub struct Candidate {
     pub number: usize,
     pub size: f64,

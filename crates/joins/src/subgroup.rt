@@ -5,7 +5,7 @@ ghost use Rattle.joins.specs.Held.{held, vanished};
 
 use bitset::entries::BitSet;
 
-#[derive(Drop)]
+#[derive(Clone, Copy)]
 pub struct Subgroup {
     pub number: usize,
     pub size: f64,

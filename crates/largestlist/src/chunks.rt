@@ -5,7 +5,7 @@ use crate::looks;
 use textform::out;
 
 // How far a chain was followed: what is left of it, the last module, and how many there were.
-#[derive(Drop)]
+#[derive(Clone, Copy)]
 struct Walk {
     rest: u32,
     last: u32,

@@ -2,7 +2,7 @@
 ghost use Rattle.std.specs.Prelude.{◌≤◌};
 
 // The counts, and how many answers are handed over.
-#[derive(Drop)]
+#[derive(Clone, Copy)]
 pub struct Counts {
     pub n: usize,
     pub g: usize,
@@ -14,7 +14,7 @@ pub struct Counts {
 }
 
 // How many entries of each area are lent, of bits_of in words.
-#[derive(Drop)]
+#[derive(Clone, Copy)]
 pub struct Lent {
     pub chunk_of: usize,
     pub next_of: usize,

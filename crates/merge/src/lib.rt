@@ -10,7 +10,7 @@ ghost use Rattle.merge.specs.Call.{written, Ready, MergeCall};
 
 use lists::copy::copy_numbers;
 
-#[derive(Drop)]
+#[derive(Clone, Copy)]
 pub enum MergeAnswer {
     Refused(u32),
     Done,

@@ -3,7 +3,7 @@ use bitset::entries::BitSet;
 use textform::numbers;
 
 // The chunk that is named, and the place past its words.
-#[derive(Drop)]
+#[derive(Clone, Copy)]
 pub struct Chunk {
     pub number: u32,
     pub entries_aware: bool,

@@ -9,7 +9,7 @@ use filter::{MinShareCount, StaticFilter};
 use limit::Limit;
 
 // Whether a matched module takes its dependencies along, if it is said.
-#[derive(Drop)]
+#[derive(Clone, Copy)]
 pub enum Recursion {
     Absent,
     Off,
@@ -17,7 +17,7 @@ pub enum Recursion {
 }
 
 // The options that are global and a group's.
-#[derive(Drop)]
+#[derive(Clone, Copy)]
 pub struct Options {
     pub min_size: Limit,
     pub max_size: Limit,
@@ -28,7 +28,7 @@ pub struct Options {
 }
 
 // A group: its own options, the tags that it asks for, and what only groups have. An absent priority or threshold is 0.
-#[derive(Drop)]
+#[derive(Clone, Copy)]
 pub struct Group {
     pub options: Options,
     pub tags: u64,
@@ -38,7 +38,7 @@ pub struct Group {
 }
 
 // The settings of a group: its options in force, the global ones where it has none of its own, and the defaults.
-#[derive(Drop)]
+#[derive(Clone, Copy)]
 pub struct Settings {
     pub filter: StaticFilter,
     pub recursive: bool,

@@ -7,7 +7,7 @@ use exec_order::listed::list_modules;
 use ranks::by_id::rank_by_id;
 
 // Refusal 4, refusal 5, or how many modules are normal and included.
-#[derive(Drop)]
+#[derive(Clone, Copy)]
 pub enum Ordered {
     SameId,
     SameOrder,

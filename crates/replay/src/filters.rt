@@ -2,7 +2,7 @@
 use filter::{Filtered, MinShareCount, StaticFilter};
 use textform::{doubles, numbers, out, words};
 
-#[derive(Drop)]
+#[derive(Clone, Copy)]
 pub struct ShareField {
     pub value: MinShareCount,
     pub at: usize,

@@ -9,7 +9,7 @@ ghost use Rattle.seeking.specs.Search.{found_of, gives_way, looked, Readable};
 use joins::candidate::Candidate;
 
 // The best of those that were looked at, if there is one.
-#[derive(Drop)]
+#[derive(Clone, Copy)]
 pub struct Best {
     pub found: bool,
     pub candidate: Candidate,

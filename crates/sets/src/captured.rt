@@ -24,7 +24,7 @@ fn mark_starts(flags: &[u8], starts: &[u32], marks: &mut [u8], queue: &mut [u32]
 }
 
 // How many modules were on the list with the starts alone, and with all that they reach.
-#[derive(Drop)]
+#[derive(Clone, Copy)]
 pub struct Found {
     pub started: usize,
     pub found: usize,

@@ -6,7 +6,7 @@ ghost use Rattle.similarity.specs.Similarity.{byte_score, similarity, similarity
 
 use ids::offsets::id_too_long;
 
-#[derive(Drop)]
+#[derive(Clone, Copy)]
 pub enum Similarity {
     Refused(u32),
     Score(u32),

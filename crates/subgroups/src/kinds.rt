@@ -75,7 +75,7 @@ fn push_kind(heads: &mut [u32], chain: &mut [u32], bucket: usize, count: usize)
 }
 
 // The kind of some bits, and the count of kinds once it is among them.
-#[derive(Drop)]
+#[derive(Clone, Copy)]
 pub struct Numbered {
     pub kind: usize,
     pub count: usize,

@@ -8,7 +8,7 @@ pub mod ordering;
 pub mod state;
 
 // The number of the first condition of the input that applies, or how many modules are normal and included.
-#[derive(Drop)]
+#[derive(Clone, Copy)]
 pub enum Tested {
     Refused(u32),
     Passed(usize),

@@ -2,13 +2,13 @@
 use crate::{numbers, words};
 use limit::Limit;
 
-#[derive(Drop)]
+#[derive(Clone, Copy)]
 pub struct DoubleField {
     pub value: f64,
     pub at: usize,
 }
 
-#[derive(Drop)]
+#[derive(Clone, Copy)]
 pub struct LimitField {
     pub value: Limit,
     pub at: usize,

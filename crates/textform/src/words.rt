@@ -6,14 +6,14 @@ ghost use Rattle.std.specs.Prelude.{◌≤◌, length};
 pub const NOWHERE: usize = 18446744073709551615;
 
 // Where a word begins, and the place past it.
-#[derive(Drop)]
+#[derive(Clone, Copy)]
 pub struct Span {
     pub from: usize,
     pub to: usize,
 }
 
 // What is looked for.
-#[derive(Drop)]
+#[derive(Clone, Copy)]
 pub enum Stop {
     Word,
     Blank,

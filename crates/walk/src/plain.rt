@@ -10,7 +10,7 @@ use crate::walk::visit;
 use index::ModuleIdx;
 
 // How many modules are on the list, and how many records were gone along.
-#[derive(Drop)]
+#[derive(Clone, Copy)]
 pub struct Passed {
     pub found: usize,
     pub gone: usize,
@@ -55,7 +55,7 @@ pub fn follow_plain(
 }
 
 // How many modules of the list were taken off, and how many are on it.
-#[derive(Drop)]
+#[derive(Clone, Copy)]
 pub struct Part {
     pub head: usize,
     pub found: usize,

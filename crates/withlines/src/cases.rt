@@ -5,7 +5,7 @@ use textform::words;
 use textform::words::{Span, Stop};
 
 // Where the line of a case begins, the place past it, and its number.
-#[derive(Drop)]
+#[derive(Clone, Copy)]
 pub struct Case {
     pub from: usize,
     pub to: usize,
