@@ -7,7 +7,8 @@ use mathlib.Core.Path.{◌≡◌, refl, sym, ap, ◌∙◌, subst}
 use native.Mathlib.Omega.{arith}
 use lib.ListN.{get_or}
 use Rattle.lists.proofs.Members.{map_same}
-use Rattle.records.specs.Chain.{link, chain_from, ended, named_from}
+use Rattle.records.specs.Chain.{link, chain_from, ended}
+use Rattle.walk.specs.Chains.{named_from}
 use Rattle.records.proofs.Chain.{chain_step, chain_in, chain_fuel, ended_end, ended_step}
 use Rattle.contiguous.specs.Laid.{laid_from, Falls}
 

@@ -11,7 +11,8 @@ use lib.Dec.{ltb, leb}
 use lib.ListN.{length, get_or, set, take, length-set}
 use lib.Seq.{get_or-set_same, get_or-set_other, get_or-take, length-take-le}
 use Rattle.lists.proofs.Below.{any_none}
-use Rattle.records.specs.Chain.{chain_of, dependencies, ended, named_from}
+use Rattle.records.specs.Chain.{chain_of, dependencies, ended}
+use Rattle.walk.specs.Chains.{named_from}
 use Rattle.records.specs.Bad.{bad_first, bad_record, bad_chain, bad_records}
 use Rattle.records.proofs.Table.{Good, good, dependencies_in}
 use Rattle.contiguous.specs.Laid.{laid_from, Falls, LayReady, Laying, LayAllReady, SameDependencies}

@@ -8,7 +8,7 @@ use native.Mathlib.Decide.{ℕ_discrete}
 use native.Mathlib.Omega.{arith}
 use lib.ListN.{length, get_or, set, length-set}
 use lib.Seq.{get_or-set_same, get_or-set_other}
-use Rattle.records.specs.Chain.{named_from}
+use Rattle.walk.specs.Chains.{named_from}
 use Rattle.records.proofs.Chain.{chain_rest, rest_ended}
 use Rattle.contiguous.specs.Laid.{laid_from, Falls, LayReady, Laying}
 use Rattle.contiguous.proofs.Falling.{none_laid, laid_same, one_more}

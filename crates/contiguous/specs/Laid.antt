@@ -1,7 +1,8 @@
 -- Records laid anew: each module's chain names the same modules as before, and its records lie side by side.
 use Rattle.std.specs.Prelude.{ℕ, ◌+◌, ◌-◌, ◌≤◌, ◌<◌, true, false, ◌⊎◌, ◌≡◌, length, get_or, take}
 use mathlib.Core.List.{List, Memᴰ}
-use Rattle.records.specs.Chain.{named_from, dependencies, ended}
+use Rattle.records.specs.Chain.{dependencies, ended}
+use Rattle.walk.specs.Chains.{named_from}
 use Rattle.records.specs.Bad.{RecordTables, bad_records}
 
 -- the modules that are named from record r on, where each record is followed by a lower one: so r records are enough

@@ -22,10 +22,6 @@ unfoldable pub dependencies : List ℕ → List ℕ → List ℕ → ℕ → ℕ
 unfolding chain_of
 dependencies first dependency next d m = map (λ r. get_or dependency r 0) (chain_of first next d m)
 
--- the modules that are named from record r on, within d records
-abbrev pub named_from : List ℕ → List ℕ → ℕ → ℕ → List ℕ
-named_from dependency next d r = map (λ q. get_or dependency q 0) (chain_from next d r)
-
 -- a chain that starts at record r has its zero within `fuel` records
 unfoldable pub ended : List ℕ → ℕ → ℕ → Bool
 ended next zero r = eqb r 0

@@ -9,7 +9,7 @@ use mathlib.Core.Path.{◌≡◌, refl, sym, ap, ◌∙◌, subst}
 use native.Mathlib.Omega.{arith}
 use lib.ListN.{length, get_or, set}
 use Rattle.flags.specs.Flags.{eligible_at}
-use Rattle.records.specs.Chain.{chain_from, named_from}
+use Rattle.records.specs.Chain.{chain_from}
 use Rattle.lists.specs.Stored.{stored}
 use Rattle.records.proofs.Chain.{chain_in, chain_rest}
 use Rattle.records.proofs.Marking.{Marking, marking_begins, marking_ends, marking_less, marking_turns}
@@ -18,6 +18,7 @@ use Rattle.lists.proofs.Stored.{one_stored}
 use Rattle.records.proofs.Table.{Good}
 use Rattle.walk.specs.Names.{Eligible}
 use Rattle.walk.specs.Followed.{Followed}
+use Rattle.walk.specs.Chains.{named_from}
 use Rattle.walk.specs.Walk.{Walk, WalkState, visited}
 use Rattle.walk.proofs.Visit.{visit_one, visit_ineligible, visit_marked}
 

@@ -7,11 +7,11 @@ use mathlib.Core.Path.{◌≡◌, refl, ap, ◌∙◌, subst}
 use native.Mathlib.Omega.{arith}
 use lib.Dec.{eqb}
 use lib.ListN.{length, get_or, length-map}
-use Rattle.records.specs.Chain.{link, chain_from, named_from}
+use Rattle.records.specs.Chain.{link, chain_from}
 use Rattle.records.proofs.Chain.{chain_rest, rest_ended}
 use Rattle.records.proofs.Table.{Good}
 use Rattle.walk.specs.Walk.{Walk, WalkTables, WalkState, visited}
-use Rattle.walk.specs.Chains.{LinkTables, Chain}
+use Rattle.walk.specs.Chains.{named_from, LinkTables, Chain}
 use Rattle.walk.proofs.Visit.{visit_one}
 
 -- ---- records, and the modules that they name

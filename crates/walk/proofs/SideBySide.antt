@@ -14,11 +14,11 @@ use lib.Dec.{eqb}
 use lib.ListN.{length, get_or, length-append}
 use lib.Seq.{drop-cons}
 use Rattle.lists.proofs.FlatMap.{flat_map_append, flat_map_mem, mem_flat_map}
-use Rattle.records.specs.Chain.{chain_from, chain_of, dependencies, named_from}
+use Rattle.records.specs.Chain.{chain_from, chain_of, dependencies}
 use Rattle.records.proofs.Chain.{chain_in}
 use Rattle.walk.specs.Walk.{Walk, WalkState, VisitReady, visited}
 use Rattle.walk.specs.Visited.{Visited}
-use Rattle.walk.specs.Chains.{named_from_all, named_by_part, go_on, LinkTables, Chain, FollowAllReady, RecordsReady}
+use Rattle.walk.specs.Chains.{named_from, named_from_all, named_by_part, go_on, LinkTables, Chain, FollowAllReady, RecordsReady}
 use Rattle.walk.proofs.Visit.{visit_all, none_new, then_visited, visited_same}
 use Rattle.walk.proofs.Passing.{named_length, named_in, named_rest, chain_on}
 

@@ -10,13 +10,13 @@ use native.Mathlib.Omega.{arith}
 use lib.Dec.{eqb}
 use lib.ListN.{length, get_or, take, drop, length-drop, get_or-eq_default}
 use lib.Seq.{drop-cons, get_or-drop}
-use Rattle.records.specs.Chain.{chain_of, dependencies, named_from}
+use Rattle.records.specs.Chain.{chain_of, dependencies}
 use Rattle.records.proofs.Table.{Good, dependencies_in}
 use Rattle.walk.specs.Reached.{start, further, Marks}
 use Rattle.walk.specs.Names.{Eligible, Names}
 use Rattle.walk.specs.Walk.{Walk, marked_count, WalkState, Walked, FromMarked, Walking, visited}
 use Rattle.walk.specs.Visited.{Visited}
-use Rattle.walk.specs.Chains.{named_by_part}
+use Rattle.walk.specs.Chains.{named_from, named_by_part}
 use Rattle.lists.proofs.Count.{count_le}
 use Rattle.lists.proofs.FlatMap.{flat_map_mem, mem_flat_map}
 use Rattle.lists.proofs.Position.{take_position, position_take}

@@ -1,8 +1,12 @@
 -- Chains that are gone along to their ends, with no record marked: one alone, or four side by side.
 use Rattle.std.specs.Prelude.{ℕ, ◌+◌, ◌*◌, ◌≤◌, ◌<◌, Bool, true, not, ◌&&◌, ◌≡◌, eqb, length, get_or, take, drop}
-use mathlib.Core.List.{List, [], ◌∷◌, flat_map, Memᴰ}
-use Rattle.records.specs.Chain.{named_from, dependencies, ended}
+use mathlib.Core.List.{List, [], ◌∷◌, map, flat_map, Memᴰ}
+use Rattle.records.specs.Chain.{chain_from, dependencies, ended}
 use Rattle.walk.specs.Walk.{Walk, WalkState, WalkTables}
+
+-- the modules named from record r on
+abbrev pub named_from : List ℕ → List ℕ → ℕ → ℕ → List ℕ
+named_from dependency next d r = map (λ r. get_or dependency r 0) (chain_from next d r)
 
 -- the modules named from the records rs on
 abbrev pub named_from_all : List ℕ → List ℕ → ℕ → List ℕ → List ℕ

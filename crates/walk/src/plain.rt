@@ -1,9 +1,8 @@
 // The walk as long as it has gone along no more records than there are: no record is marked as followed, and nothing has to be undone.
 ghost use mathlib.Core.List.{foldl};
 ghost use Rattle.std.specs.Prelude.{◌≡◌, ◌+◌, ◌-◌, length, get_or};
-ghost use Rattle.records.specs.Chain.{named_from};
 ghost use Rattle.walk.specs.Walk.{PlainReady, Walking, visited};
-ghost use Rattle.walk.specs.Chains.{FirstReady, FollowPlainReady};
+ghost use Rattle.walk.specs.Chains.{named_from, FirstReady, FollowPlainReady};
 
 use crate::four::take_four;
 use crate::walk::visit;

@@ -5,7 +5,7 @@ use mathlib.Core.Path.{sym, ◌∙◌}
 use native.Mathlib.Omega.{arith}
 use mir.Facts.{Fits-32_64}
 use lib.ListN.{length}
-use Rattle.records.specs.Chain.{named_from}
+use Rattle.walk.specs.Chains.{named_from}
 use Rattle.walk.proofs.Passing.{Passing, pass_begins, pass_few, pass_ends, pass_counted, pass_less, pass_turns, named_in}
 use Rattle.walk.proofs.plain.follow_plain.Statement.{statement}
 use Rattle.walk.proofs.plain.follow_plain.Tie as tie
