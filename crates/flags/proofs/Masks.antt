@@ -3,7 +3,7 @@ use Prim.Native.Nat.{ℕ, ◌/◌, ◌%◌}
 use mathlib.Core.Bool.{true, not, ◌&&◌}
 use mathlib.Core.Path.{◌≡◌, sym, ap, ◌∙◌}
 use native.Mathlib.Omega.{arith}
-use borrow.Author.Tests.{eqb-true, eqb-false, eq-eqb, ne_eqb, not_true}
+use borrow.Author.Tests.{eqb-true, eqb-false, eq-eqb, ne_eqb, not-true}
 use lib.Bits.{bit_and, and_mask}
 use lib.Dec.{eqb}
 use lib.Pow.{mod-pow-add}
@@ -43,5 +43,5 @@ eligible_mask f = ap (λ (k : ℕ). eqb k 3) (and_mask f 3) ∙ same_truth (eqb 
     back e =
         let s = both (listed f) (not (eqb (f / 4 % 2) 1)) e in
         let a = eqb-true (f % 4) 3 (low ∙ s.0) in
-        let b = eqb-false (f / 4 % 2) 1 (not_true (eqb (f / 4 % 2) 1) s.1) in
+        let b = eqb-false (f / 4 % 2) 1 (not-true (eqb (f / 4 % 2) 1) s.1) in
         eq-eqb (f % 8) 3 (omega (arith, mod-pow-add f 1 2))

@@ -3,7 +3,7 @@ use Prim.Native.Nat.{ℕ, ◌*◌, ◌<◌}
 use mathlib.Core.Bool.{Bool, true, false, ◌&&◌, not, true≢false, or-true}
 use mathlib.Core.List.{Memᴰ}
 use mathlib.Core.Path.{◌≡◌, refl, sym, ap₂, ◌∙◌}
-use borrow.Author.Tests.{eqb-true, eq-eqb, not_false}
+use borrow.Author.Tests.{eqb-true, eq-eqb, not-false}
 use lib.Dec.{eqb}
 use lib.ListN.{length, get_or}
 use Rattle.lists.specs.Below.{any_below}
@@ -51,7 +51,7 @@ bits_long : (b : Given) → bad_table b ≡ false → length b.shared.bits ≡ 4
 unfolding bad_table bad_module_table
 bits_long b none =
     eqb-true (length b.shared.bits) (4 * b.shared.n)
-    (not_false (eqb (length b.shared.bits) (4 * b.shared.n))
+    (not-false (eqb (length b.shared.bits) (4 * b.shared.n))
     (refuted (bad_length b.shared.bits (4 * b.shared.n)) (λ e. true≢false (sym (listed_last e) ∙ none))))
   where
     listed_last : bad_length b.shared.bits (4 * b.shared.n) ≡ true → bad_table b ≡ true

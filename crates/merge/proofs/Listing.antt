@@ -5,7 +5,7 @@ use mathlib.Core.List.{List, Memᴰ}
 use mathlib.Core.Path.{◌≡◌, sym, ap, ◌∙◌}
 use native.Mathlib.Nat.{zero-add}
 use native.Mathlib.Omega.{arith}
-use borrow.Author.Tests.{eq-eqb, ne_eqb, eqb-false, not_true}
+use borrow.Author.Tests.{eq-eqb, ne_eqb, eqb-false, not-true}
 use lib.Dec.{eqb}
 use lib.ListN.{length, get_or}
 use Rattle.lists.specs.Keep.{keep}
@@ -93,7 +93,7 @@ first_word_kept s t numbers sizes bits g n z b after sound i m not_t =
     let inside : i < length numbers = in_listed numbers i k.0 in
     let tables = (joined_sound s t numbers sizes bits g n z b after sound).tables in
     let same = joined_count s t numbers sizes bits g n z b after in
-    let not_s = eqb-false i s.number (not_true (eqb i s.number) k.1) in
+    let not_s = eqb-false i s.number (not-true (eqb i s.number) k.1) in
     ap (λ (r : BitSet). word_at r 0) (row_reads b i (omega (arith, same, tables.bits_fit)))
     ∙ ap (λ (r : BitSet). word_at r 0) (row_of_other s t numbers sizes bits g n z b after i inside not_s not_t)
     ∙ sym (ap (λ (r : BitSet). word_at r 0) (row_reads bits i (omega (arith, g.tables.bits_fit))))

@@ -5,7 +5,7 @@ use mathlib.Core.List.{List}
 use mathlib.Core.Option.{none, some}
 use mathlib.Core.Path.{◌≡◌, refl, ap, ◌∙◌}
 use native.Mathlib.Omega.{arith}
-use borrow.Author.Tests.{not_true, eqb-false}
+use borrow.Author.Tests.{not-true, eqb-false}
 use lib.Dec.{eqb}
 use lib.Ieee.{Float}
 use lib.ListN.{length}
@@ -63,5 +63,5 @@ module _ (numbers sizes bits : List ℕ) where
         tables = m;
         seeker = (seeker_is threshold (there_in numbers sizes bits) s e (Standing numbers sizes bits) standing).0;
         target = to.0;
-        apart = eqb-false t.number s.number (not_true (eqb t.number s.number) to.1);
+        apart = eqb-false t.number s.number (not-true (eqb t.number s.number) to.1);
       }

@@ -4,7 +4,7 @@ use mathlib.Core.Bool.{false}
 use mathlib.Core.List.{List, Memᴰ}
 use mathlib.Core.Path.{◌≡◌, refl, sym, ap, ◌∙◌, subst}
 use native.Mathlib.Omega.{arith}
-use borrow.Author.Tests.{eqb-true, ltb-false, not_false}
+use borrow.Author.Tests.{eqb-true, ltb-false, not-false}
 use lib.Dec.{eqb}
 use lib.ListN.{length, get_or}
 use Rattle.lists.specs.Keep.{keep}
@@ -23,7 +23,7 @@ use Rattle.places.specs.Ordered.{listed_of, Handed, Hands}
 use Rattle.places.proofs.PlacesByOrder.{places_by_order}
 
 is_length : (l : List ℕ) (n : ℕ) → bad_length l n ≡ false → length l ≡ n
-is_length l n e = eqb-true (length l) n (not_false (eqb (length l) n) e)
+is_length l n e = eqb-true (length l) n (not-false (eqb (length l) n) e)
 
 module _ (b : Given) where
   -- refusal 1

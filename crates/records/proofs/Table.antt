@@ -6,7 +6,7 @@ use mathlib.Core.List.Memᴰ
 use mathlib.Core.List.{List, Memᴰ}
 use mathlib.Core.Path.{◌≡◌, subst}
 use native.Mathlib.Nat.{not-suc-le-zero}
-use borrow.Author.Tests.{ltb-false, leb-false, not_false}
+use borrow.Author.Tests.{ltb-false, leb-false, not-false}
 use lib.Dec.{ltb, leb}
 use lib.ListN.{get_or}
 use Rattle.lists.proofs.Below.{neither, none_of}
@@ -35,7 +35,7 @@ module _ (dependency next : List ℕ) (n d : ℕ) (e : bad_record dependency nex
 
 pub chain_ends : (first next : List ℕ) (n d : ℕ) → bad_chain first next n d ≡ false → (m : ℕ) → m < n → ended next d (get_or first m 0) ≡ true
 unfolding bad_chain
-chain_ends first next n d e m h = not_false (ended next d (get_or first m 0)) (none_of (λ m. not (ended next d (get_or first m 0))) n e m h)
+chain_ends first next n d e m h = not-false (ended next d (get_or first m 0)) (none_of (λ m. not (ended next d (get_or first m 0))) n e m h)
 
 -- all of it, for a table that refusal 7 does not turn away
 pub record Good (first dependency next : List ℕ) (n d : ℕ) : Type 0 where

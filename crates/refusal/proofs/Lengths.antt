@@ -2,11 +2,11 @@
 use Prim.Native.Nat.{ℕ}
 use mathlib.Core.Bool.{Bool, true, false, not, ◌||◌, true≢false}
 use mathlib.Core.Path.{◌≡◌, refl}
-use borrow.Author.Tests.{eqb-true, not_false}
+use borrow.Author.Tests.{eqb-true, not-false}
 use lib.Dec.{eqb}
 
 pub right_length : (l n : ℕ) → not (eqb l n) ≡ false → l ≡ n
-right_length l n e = eqb-true l n (not_false (eqb l n) e)
+right_length l n e = eqb-true l n (not-false (eqb l n) e)
 
 -- the first of several, and the others
 pub first_length : (l n : ℕ) (t : Bool) → (not (eqb l n) || t) ≡ false → (l ≡ n) × (t ≡ false)

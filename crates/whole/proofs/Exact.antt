@@ -5,7 +5,7 @@ use native.Mathlib.Nat.{add-zero, zero-add, add_assoc, add-mul, mul-sub, mul-one
 use native.Mathlib.Omega.{arith}
 use mathlib.Core.Path.{◌≡◌, sym, ap, ap₂, ◌∙◌}
 use mathlib.Core.Bool.{true, false, cond}
-use mathlib.Core.List.{List, [], ◌∷◌, ◌++◌, foldl, foldl_append, Perm}
+use mathlib.Core.List.{List, [], ◌∷◌, ◌++◌, foldl, foldl-append, Perm}
 use borrow.Author.Tests.{le-ltb}
 use lib.IntN.{ℤ}
 use lib.Dec.{ltb}
@@ -67,7 +67,7 @@ sum_exact l h = from_total 0 l (omega arith) ∙ ap to_f64 (zero-add (sum l))
 -- one more size: the definition's own step, with no bound
 pub sum_f64_snoc : (l : List ℕ) (x : ℕ) → sum_f64 (l ++ (x ∷ [])) ≡ add binary64 (sum_f64 l) (to_f64 x)
 unfolding sum_f64
-sum_f64_snoc l x = foldl_append (λ total size. add binary64 total (to_f64 size)) (to_f64 0) l (x ∷ [])
+sum_f64_snoc l x = foldl-append (λ total size. add binary64 total (to_f64 size)) (to_f64 0) l (x ∷ [])
 
 pub sum_f64_take_suc : (l : List ℕ) (i : ℕ) → i < length l → sum_f64 (take (suc i) l) ≡ add binary64 (sum_f64 (take i l)) (to_f64 (get_or l i 0))
 sum_f64_take_suc l i h = ap sum_f64 (take-suc l i 0 h) ∙ sum_f64_snoc (take i l) (get_or l i 0)

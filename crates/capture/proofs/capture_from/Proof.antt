@@ -3,7 +3,7 @@ use Prim.Native.Nat.{ℕ, ◌-◌}
 use mathlib.Core.Bool.{false≢true}
 use mathlib.Core.Path.{◌≡◌, refl, sym, ap, ◌∙◌}
 use native.Mathlib.Omega.{arith}
-use borrow.Author.Tests.{not_true, not_false}
+use borrow.Author.Tests.{not-true, not-false}
 use lib.ListN.{length, replicate, length-set}
 use Rattle.forget.specs.Unfollowed.{unfollowed}
 use Rattle.walk.specs.Names.{Eligible}
@@ -45,7 +45,7 @@ same_length c = c.before.before.before.before.clear-bytes.auto.0
 returns : tie.Need-returns
 returns c =
     let s = c.before.before.before.before.before.before.before.before.before.before.before.before in
-    let off = sym c.before.is-eligible-at.ensures ∙ not_true c.before.is-eligible-at.result c.if1.true in
+    let off = sym c.before.is-eligible-at.ensures ∙ not-true c.before.is-eligible-at.result c.if1.true in
     capture_none (given s) _ (cleared c.before.before.before.before) (λ e. false≢true (sym off ∙ e))
 
 -- ---- the start passed the test
@@ -57,7 +57,7 @@ abbrev after-clear : tie.Else1 → tie.After-clear-bytes
 after-clear e = e.before.before.before.before
 
 eligible-start : (e : tie.Else1) → Eligible (entry e).args.flags.now (entry e).args.from.0
-eligible-start e = sym e.before.is-eligible-at.ensures ∙ not_false e.before.is-eligible-at.result e.if1.false
+eligible-start e = sym e.before.is-eligible-at.ensures ∙ not-false e.before.is-eligible-at.result e.if1.false
 
 cast-marks : tie.Need-overflow-cast-marks
 cast-marks c = search rules
@@ -74,7 +74,7 @@ returns-2 : tie.Need-returns-2
 returns-2 c =
     let e = c.before.before in
     let s = entry e in
-    capture_alone (given s) _ (cleared (after-clear e)) s.pre.start_in (eligible-start e) (not_true s.args.recursive c.if2.true)
+    capture_alone (given s) _ (cleared (after-clear e)) s.pre.start_in (eligible-start e) (not-true s.args.recursive c.if2.true)
 
 slice-write-queue : tie.Need-slice-write-queue
 slice-write-queue c = let p = (entry c.before.before).requires in omega (arith, p.start_in, p.room)
@@ -105,7 +105,7 @@ returns-3 : tie.Need-returns-3
 returns-3 c =
     let e = c.before.before.before.before.before.before.before.before.before.before.before in
     let s = entry e in
-    let on = not_false s.args.recursive c.before.before.before.before.before.before.before.before.before.if2.false in
+    let on = not-false s.args.recursive c.before.before.before.before.before.before.before.before.before.if2.false in
     capture_walk (given s) _ (cleared (after-clear e)) s.pre.start_in _ on c.before.before.before.before.before.walk.ensures.0.marked
 
 pub capture-from-spec : {M : Type 1} → statement M

@@ -6,7 +6,7 @@ use mathlib.Core.Path.{refl}
 use native.Mathlib.Omega.{arith}
 use mir.Facts.{Fits-32_64}
 use borrow.Author.Rules.{rules}
-use borrow.Author.Tests.{not_false}
+use borrow.Author.Tests.{not-false}
 use lib.ListN.{length}
 use Rattle.contiguous.proofs.LaidTables.{LayingAll, all_begins, chain_ready, all_turns_lem, all_same}
 use Rattle.contiguous.proofs.lay_chains.Statement.{statement}
@@ -57,7 +57,7 @@ cast-to-first c =
     let k = c.before.before.before.before.before.before.before in
     let l = k.before.before.before.before.before in
     let laid = k.lay-chain.ensures in
-    omega (arith, (laid.1 (not_false _ c.before.if1.false)).first_in, laid.0, (start l).requires.few)
+    omega (arith, (laid.1 (not-false _ c.before.if1.false)).first_in, laid.0, (start l).requires.few)
 
 mul-to-first : tie.Need-overflow-mul-to-first invariant-loop decreases-loop
 mul-to-first c = search rules
@@ -81,7 +81,7 @@ loop-again c =
     let k = c.before.before.before.before.before.before.before in
     let l = k.before.before.before.before.before in
     let laid = k.lay-chain.ensures in
-    all_turns_lem (start l).requires l.loop.invariant k.before.before.before.before.loop-test.true (laid.1 (not_false _ c.before.if1.false)) laid.0 _
+    all_turns_lem (start l).requires l.loop.invariant k.before.before.before.before.loop-test.true (laid.1 (not-false _ c.before.if1.false)) laid.0 _
     refl
 
 same-length-4 : tie.Need-same-length-4 invariant-loop decreases-loop

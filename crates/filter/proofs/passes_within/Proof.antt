@@ -1,7 +1,7 @@
 -- `filter::passes_within` meets its contract: each way out by what its test says of the whole filter.
 use mathlib.Core.Path.{sym, ◌∙◌}
 use borrow.Author.Rules.{rules}
-use borrow.Author.Tests.{not_true, not_false}
+use borrow.Author.Tests.{not-true, not-false}
 use lib.Dec.{le→leb}
 use lib.Ieee.{in_float}
 use Rattle.filter.proofs.Ways.{tags_missing, too_small, too_large, only_shares}
@@ -14,7 +14,7 @@ contains-all-requires c κs = search rules
 returns : tie.Need-returns
 returns c =
     let tagged = c.before.contains-all in
-    sym (tags_missing _ _ _ _ (sym tagged.ensures ∙ not_true tagged.result c.if1.true))
+    sym (tags_missing _ _ _ _ (sym tagged.ensures ∙ not-true tagged.result c.if1.true))
 
 int-to-float-at-least : tie.Need-int-to-float-at-least
 unfolding in_float
@@ -26,7 +26,7 @@ at-least-requires c κs = search rules
 returns-2 : tie.Need-returns-2
 returns-2 c =
     let least = c.before.at_least in
-    sym (too_small _ _ _ _ (sym least.ensures ∙ not_true least.result c.if2.true))
+    sym (too_small _ _ _ _ (sym least.ensures ∙ not-true least.result c.if2.true))
 
 int-to-float-at-most : tie.Need-int-to-float-at-most
 unfolding in_float
@@ -38,7 +38,7 @@ at-most-requires c κs = search rules
 returns-3 : tie.Need-returns-3
 returns-3 c =
     let most = c.before.at_most in
-    sym (too_large _ _ _ _ (sym most.ensures ∙ not_true most.result c.if3.true))
+    sym (too_large _ _ _ _ (sym most.ensures ∙ not-true most.result c.if3.true))
 
 shared-enough-requires : tie.Need-shared-enough-requires
 shared-enough-requires c κs = search rules
@@ -53,9 +53,9 @@ returns-4 c =
     let tagged = missing.before.contains-all in
     c.shared-enough.ensures
     ∙ sym (only_shares _ _ _ _
-    (sym tagged.ensures ∙ not_false tagged.result missing.if1.false)
-    (sym least.ensures ∙ not_false least.result small.if2.false)
-    (sym most.ensures ∙ not_false most.result large.if3.false))
+    (sym tagged.ensures ∙ not-false tagged.result missing.if1.false)
+    (sym least.ensures ∙ not-false least.result small.if2.false)
+    (sym most.ensures ∙ not-false most.result large.if3.false))
 
 pub passes-within-spec : {M : Type 1} → statement M
 passes-within-spec =

@@ -1,7 +1,7 @@
 -- `cut::given::look_at` meets its contract: a cut that is not allowed is passed over, and any other is compared with the best.
 use Prim.Native.Nat.{ℕ}
 use mathlib.Core.Path.{sym, ap, ◌∙◌}
-use borrow.Author.Tests.{not_true, not_false}
+use borrow.Author.Tests.{not-true, not-false}
 use Rattle.cut.specs.Candidate.{allowed}
 use Rattle.cut.specs.Scan.{replaced}
 use Rattle.cut.proofs.Looking.{not_allowed_lem, is_allowed}
@@ -14,7 +14,7 @@ both-reach-requires c κs = search rules
 
 returns : tie.Need-returns
 unfolding allowed
-returns c = sym (not_allowed_lem _ _ _ (sym c.before.both-reach.ensures ∙ not_true _ c.if1.true))
+returns c = sym (not_allowed_lem _ _ _ (sym c.before.both-reach.ensures ∙ not-true _ c.if1.true))
 
 sub-before : tie.Need-overflow-sub-before
 sub-before c = search rules
@@ -38,7 +38,7 @@ returns-2 c =
     c.or-better.ensures
     ∙ ap (λ (n : ℕ). replaced a.bounds.maximum a.best (record { index = a.i; similarity = n; left = a.left; right = a.right }))
     c.before.similarity-between.ensures
-    ∙ sym (is_allowed _ _ _ (sym c.before.before.before.both-reach.ensures ∙ not_false _ c.before.before.if1.false))
+    ∙ sym (is_allowed _ _ _ (sym c.before.before.before.both-reach.ensures ∙ not-false _ c.before.before.if1.false))
 
 pub look-at-spec : {M : Type 1} → statement M
 look-at-spec =

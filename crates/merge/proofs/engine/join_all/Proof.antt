@@ -3,7 +3,7 @@
 use Prim.Native.Nat.{suc, ◌-◌, ◌≤◌}
 use mathlib.Core.Path.{◌≡◌, refl, sym, ap, ◌∙◌, subst}
 use native.Mathlib.Omega.{arith}
-use borrow.Author.Tests.{not_true, not_false}
+use borrow.Author.Tests.{not-true, not-false}
 use lib.ListN.{length, take, drop}
 use lib.Seq.{take-length, length-take-le, length_front}
 use Rattle.lists.specs.Range.{range}
@@ -149,7 +149,7 @@ returns c =
     let turn = subst (λ m. Turn a.threshold m l.numbers l.sizes l.bits (take l.left l.there)
     j.join-next.new.0 j.join-next.new.1.0 j.join-next.new.1.1.0
     j.join-next.new.1.1.1.0 j.join-next.new.1.1.1.1.0 j.join-next.new.1.1.1.1.1.0)
-    (not_true _ c.if1.true) j.join-next.ensures in
+    (not-true _ c.if1.true) j.join-next.ensures in
     record {
       state = turn_last a.threshold l.numbers l.sizes l.bits (take l.left l.there)
           j.join-next.new.0 j.join-next.new.1.0 j.join-next.new.1.1.0
@@ -173,7 +173,7 @@ loop-again c =
     let turn = subst (λ m. Turn a.threshold m l.numbers l.sizes l.bits (take l.left l.there)
     j.join-next.new.0 j.join-next.new.1.0 j.join-next.new.1.1.0
     j.join-next.new.1.1.1.0 j.join-next.new.1.1.1.1.0 j.join-next.new.1.1.1.1.1.0)
-    (not_false _ c.if1.false) j.join-next.ensures in
+    (not-false _ c.if1.false) j.join-next.ensures in
     let back : suc (l.left - 1) ≡ l.left = omega arith in
     let there-long = length_front l.there j.join-next.new.1.1.1.0 l.left j.join-next.auto.1.1.1.0 in
     let words_long = length_front l.words j.join-next.new.1.1.1.1.0 l.left j.join-next.auto.1.1.1.1.0 in (

@@ -4,7 +4,7 @@ use Prim.Native.Nat.{ℕ, ◌-◌}
 use mathlib.Core.List.{List}
 use mathlib.Core.Path.{◌≡◌, sym, ap, ◌∙◌}
 use native.Mathlib.Omega.{arith}
-use borrow.Author.Tests.{not_true, not_false}
+use borrow.Author.Tests.{not-true, not-false}
 use borrow.Author.Rules.{rules}
 use lib.ListN.{length, take}
 use lib.Seq.{length-take-le}
@@ -33,7 +33,7 @@ gone v =
     let s = f.before.before.before.before.before.before.before.before.before in
     let a = s.args in
     seeker_removed a.threshold a.numbers.now a.sizes.now a.bits.now a.there.now a.heads.now s.requires.0 s.requires.1 s.requires.2
-    f.find-seeker.result f.find-seeker.ensures (not_false _ p.if1.false)
+    f.find-seeker.result f.find-seeker.ensures (not-false _ p.if1.false)
     a.words.now v.remove.new.0 v.remove.new.1.0 s.requires.3 s.requires.4 v.remove.auto.0 v.remove.auto.1.0 v.remove.ensures
 
 -- ---- the answers
@@ -56,7 +56,7 @@ returns c =
     let s = f.before.before.before.before.before.before.before.before.before in
     let a = s.args in
     turn_without_seeker a.threshold a.numbers.now a.sizes.now a.bits.now a.there.now a.heads.now s.requires.0 s.requires.1 s.requires.2
-    f.find-seeker.result f.find-seeker.ensures (not_true _ c.if1.true) a.words.now
+    f.find-seeker.result f.find-seeker.ensures (not-true _ c.if1.true) a.words.now
 
 subgroup-at-requires : tie.Need-subgroup-at-requires
 subgroup-at-requires c κs =
@@ -65,7 +65,7 @@ subgroup-at-requires c κs =
     let s = f.before.before.before.before.before.before.before.before.before in
     let a = s.args in
     let row = seeker_row a.threshold a.numbers.now a.sizes.now a.bits.now a.there.now a.heads.now s.requires.0 s.requires.1 s.requires.2
-    f.find-seeker.result f.find-seeker.ensures (not_false _ p.if1.false) in
+    f.find-seeker.result f.find-seeker.ensures (not-false _ p.if1.false) in
     (row.1, row.2)
 
 cast-remove : tie.Need-overflow-cast-remove
@@ -75,7 +75,7 @@ cast-remove c =
     let s = f.before.before.before.before.before.before.before.before.before in
     let a = s.args in
     let row = seeker_row a.threshold a.numbers.now a.sizes.now a.bits.now a.there.now a.heads.now s.requires.0 s.requires.1 s.requires.2
-    f.find-seeker.result f.find-seeker.ensures (not_false _ p.if1.false) in
+    f.find-seeker.result f.find-seeker.ensures (not-false _ p.if1.false) in
     omega (arith, row.0, s.requires.0.tables.count)
 
 remove-requires : tie.Need-remove-requires
@@ -85,7 +85,7 @@ remove-requires c κs =
     let s = f.before.before.before.before.before.before.before.before.before in
     let a = s.args in
     let on_List = seeker_listed a.threshold a.numbers.now a.sizes.now a.bits.now a.there.now a.heads.now s.requires.0 s.requires.1 s.requires.2
-    f.find-seeker.result f.find-seeker.ensures (not_false _ p.if1.false) in
+    f.find-seeker.result f.find-seeker.ensures (not-false _ p.if1.false) in
     (on_List.0, on_List.1, s.requires.4)
 
 sub-left : tie.Need-overflow-sub-left
@@ -108,7 +108,7 @@ find-target-requires c κs =
     let s = f.before.before.before.before.before.before.before.before.before in
     let a = s.args in
     reads_left a.threshold a.numbers.now a.sizes.now a.bits.now a.there.now a.heads.now s.requires.0 s.requires.1 s.requires.2
-    f.find-seeker.result f.find-seeker.ensures (not_false _ p.if1.false)
+    f.find-seeker.result f.find-seeker.ensures (not-false _ p.if1.false)
     (held u.subgroup-at.result) u.subgroup-at.ensures (left v) (gone v).0 v.remove.new.1.0 (gone v).1
 
 same-length-3 : tie.Need-same-length-3
@@ -136,9 +136,9 @@ returns-2 c =
     let s = f.before.before.before.before.before.before.before.before.before in
     let a = s.args in
     turn_without_target a.threshold a.numbers.now a.sizes.now a.bits.now a.there.now a.heads.now s.requires.0 s.requires.1 s.requires.2
-    f.find-seeker.result f.find-seeker.ensures (not_false _ p.if1.false)
+    f.find-seeker.result f.find-seeker.ensures (not-false _ p.if1.false)
     (held u.subgroup-at.result) u.subgroup-at.ensures (left v) (gone v).0
-    d.find-target.result d.find-target.ensures (not_true _ c.if2.true) v.remove.new.0 v.remove.new.1.0
+    d.find-target.result d.find-target.ensures (not-true _ c.if2.true) v.remove.new.0 v.remove.new.1.0
 
 subgroup-at-requires-2 : tie.Need-subgroup-at-requires-2
 subgroup-at-requires-2 c κs =
@@ -151,9 +151,9 @@ subgroup-at-requires-2 c κs =
     let s = f.before.before.before.before.before.before.before.before.before in
     let a = s.args in
     target_row a.threshold a.numbers.now a.sizes.now a.bits.now a.there.now a.heads.now s.requires.0 s.requires.1 s.requires.2
-    f.find-seeker.result f.find-seeker.ensures (not_false _ p.if1.false)
+    f.find-seeker.result f.find-seeker.ensures (not-false _ p.if1.false)
     (held u.subgroup-at.result) u.subgroup-at.ensures (left v) (gone v).0
-    d.find-target.result d.find-target.ensures (not_false _ q.if2.false)
+    d.find-target.result d.find-target.ensures (not-false _ q.if2.false)
 
 join-requires : tie.Need-join-requires
 join-requires c κs =
@@ -167,9 +167,9 @@ join-requires c κs =
     let s = f.before.before.before.before.before.before.before.before.before in
     let a = s.args in
     join_fits a.threshold a.numbers.now a.sizes.now a.bits.now a.there.now a.heads.now s.requires.0 s.requires.1 s.requires.2
-    f.find-seeker.result f.find-seeker.ensures (not_false _ p.if1.false)
+    f.find-seeker.result f.find-seeker.ensures (not-false _ p.if1.false)
     (held u.subgroup-at.result) u.subgroup-at.ensures (left v) (gone v).0
-    d.find-target.result d.find-target.ensures (not_false _ q.if2.false) (held w.subgroup-at2.result) w.subgroup-at2.ensures
+    d.find-target.result d.find-target.ensures (not-false _ q.if2.false) (held w.subgroup-at2.result) w.subgroup-at2.ensures
 
 slice-reshare-prefix-rewrite-word : tie.Need-slice-reshare-prefix-rewrite-word
 slice-reshare-prefix-rewrite-word c = search rules
@@ -192,9 +192,9 @@ rewrite-word-requires c κs =
     let s = f.before.before.before.before.before.before.before.before.before in
     let a = s.args in
     let fits = rewrite_fits a.threshold a.numbers.now a.sizes.now a.bits.now a.there.now a.heads.now s.requires.0 s.requires.1 s.requires.2
-    f.find-seeker.result f.find-seeker.ensures (not_false _ p.if1.false)
+    f.find-seeker.result f.find-seeker.ensures (not-false _ p.if1.false)
     (held u.subgroup-at.result) u.subgroup-at.ensures (left v) (gone v).0
-    d.find-target.result d.find-target.ensures (not_false _ q.if2.false) (held w.subgroup-at2.result) w.subgroup-at2.ensures
+    d.find-target.result d.find-target.ensures (not-false _ q.if2.false) (held w.subgroup-at2.result) w.subgroup-at2.ensures
     j.join.new.0 j.join.new.1.0 j.join.new.1.1.0 j.join.ensures in
     (fits.0, fits.1, (gone v).1.room, fits.2, fits.3)
 
@@ -212,9 +212,9 @@ refresh-requires c κs =
     let s = f.before.before.before.before.before.before.before.before.before in
     let a = s.args in
     let fits = refresh_fits a.threshold a.numbers.now a.sizes.now a.bits.now a.there.now a.heads.now s.requires.0 s.requires.1 s.requires.2
-    f.find-seeker.result f.find-seeker.ensures (not_false _ p.if1.false)
+    f.find-seeker.result f.find-seeker.ensures (not-false _ p.if1.false)
     (held u.subgroup-at.result) u.subgroup-at.ensures (left v) (gone v).0
-    d.find-target.result d.find-target.ensures (not_false _ q.if2.false) (held w.subgroup-at2.result) w.subgroup-at2.ensures
+    d.find-target.result d.find-target.ensures (not-false _ q.if2.false) (held w.subgroup-at2.result) w.subgroup-at2.ensures
     j.join.new.0 j.join.new.1.0 j.join.new.1.1.0 j.join.ensures in
     (fits.0, fits.1, fits.2, fits.4)
 
@@ -233,9 +233,9 @@ refresh-requires-2 c κs =
     let s = f.before.before.before.before.before.before.before.before.before in
     let a = s.args in
     let fits = refresh_fits a.threshold a.numbers.now a.sizes.now a.bits.now a.there.now a.heads.now s.requires.0 s.requires.1 s.requires.2
-    f.find-seeker.result f.find-seeker.ensures (not_false _ p.if1.false)
+    f.find-seeker.result f.find-seeker.ensures (not-false _ p.if1.false)
     (held u.subgroup-at.result) u.subgroup-at.ensures (left v) (gone v).0
-    d.find-target.result d.find-target.ensures (not_false _ q.if2.false) (held w.subgroup-at2.result) w.subgroup-at2.ensures
+    d.find-target.result d.find-target.ensures (not-false _ q.if2.false) (held w.subgroup-at2.result) w.subgroup-at2.ensures
     j.join.new.0 j.join.new.1.0 j.join.new.1.1.0 j.join.ensures in
     (fits.0, fits.1, fits.3, omega (arith, fits.4, r.refresh.auto.0))
 
@@ -278,9 +278,9 @@ returns-3 c =
     let s = f.before.before.before.before.before.before.before.before.before in
     let a = s.args in
     turn_with_join a.threshold a.numbers.now a.sizes.now a.bits.now a.there.now a.heads.now s.requires.0 s.requires.1 s.requires.2
-    f.find-seeker.result f.find-seeker.ensures (not_false _ p.if1.false)
+    f.find-seeker.result f.find-seeker.ensures (not-false _ p.if1.false)
     (held u.subgroup-at.result) u.subgroup-at.ensures (left v) (gone v).0
-    d.find-target.result d.find-target.ensures (not_false _ q.if2.false) (held w.subgroup-at2.result) w.subgroup-at2.ensures
+    d.find-target.result d.find-target.ensures (not-false _ q.if2.false) (held w.subgroup-at2.result) w.subgroup-at2.ensures
     j.join.new.0 j.join.new.1.0 j.join.new.1.1.0 v.remove.new.0 j.join.ensures
     (sym (ap (λ n. take (n - 1) v.remove.new.0) v.remove.auto.0))
     v.remove.new.1.0 x.rewrite-word.new.0 (gone v).1 x.rewrite-word.ensures

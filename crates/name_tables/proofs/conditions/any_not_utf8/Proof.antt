@@ -3,7 +3,7 @@ use Prim.Native.Nat.{◌≤◌, ◌-◌}
 use mathlib.Core.Path.{◌≡◌, refl, sym, ap, ◌∙◌}
 use native.Mathlib.Omega.{arith}
 use borrow.Author.Rules.{rules}
-use borrow.Author.Tests.{not_true, not_false}
+use borrow.Author.Tests.{not-true, not-false}
 use lib.ListN.{drop}
 use Rattle.utf8.specs.Utf8.{utf8}
 use Rattle.name_tables.specs.Names.{names_of}
@@ -33,7 +33,7 @@ returns : tie.Need-returns invariant-loop decreases-loop
 returns c =
     let a = c.before.before.before.before.before.before.before.args in
     let s = c.before.before.before.before.loop in
-    let bad = ap utf8 (sym c.before.before.name-at.ensures) ∙ sym c.before.is-utf8.ensures ∙ not_true _ c.if1.true in
+    let bad = ap utf8 (sym c.before.before.name-at.ensures) ∙ sym c.before.is-utf8.ensures ∙ not-true _ c.if1.true in
     sym (one_name a.count a.bytes.now a.offsets.now _ s.k c.before.before.before.loop-test.true bad) ∙ s.invariant.1
 
 add-k : tie.Need-overflow-add-k invariant-loop decreases-loop
@@ -46,7 +46,7 @@ loop-again : tie.Need-loop-preserved invariant-loop decreases-loop
 loop-again c =
     let a = c.before.before.before.before.before.before.before.args in
     let s = c.before.before.before.before.loop in
-    let good = ap utf8 (sym c.before.before.name-at.ensures) ∙ sym c.before.is-utf8.ensures ∙ not_false _ c.if1.false in
+    let good = ap utf8 (sym c.before.before.name-at.ensures) ∙ sym c.before.is-utf8.ensures ∙ not-false _ c.if1.false in
     (omega arith, sym (one_name a.count a.bytes.now a.offsets.now _ s.k c.before.before.before.loop-test.true good) ∙ s.invariant.1)
 
 returns-2 : tie.Need-returns-2 invariant-loop decreases-loop

@@ -2,7 +2,7 @@
 use mathlib.Core.Bool.{true, false}
 use mathlib.Core.Path.{◌≡◌, sym, ap, ap₂, ◌∙◌}
 use borrow.Author.Rules.{rules}
-use borrow.Author.Tests.{not_true, not_false}
+use borrow.Author.Tests.{not-true, not-false}
 use Rattle.joins.specs.Candidate.{seeking, comes_first}
 use Rattle.seeking.specs.Seekers.{seeks_at, seeks_before, ahead}
 use Rattle.seeking.proofs.heads.ahead.Statement.{statement}
@@ -19,7 +19,7 @@ unfolding ahead
 returns c =
     let a = c.before.before.before.before.args in
     let no : seeks_at a.threshold a.sizes.now a.i ≡ false =
-    sym (c.before.seeks.ensures ∙ ap (seeking a.threshold) c.before.before.seeker-at.ensures) ∙ not_true _ c.if1.true in
+    sym (c.before.seeks.ensures ∙ ap (seeking a.threshold) c.before.before.seeker-at.ensures) ∙ not-true _ c.if1.true in
     rw no
 
 seeker-at-requires-2 : tie.Need-seeker-at-requires-2
@@ -34,9 +34,9 @@ returns-2 c =
     let one = c.before.before.before in
     let a = one.before.before.before.before.args in
     let yes : seeks_at a.threshold a.sizes.now a.i ≡ true =
-    sym (one.before.seeks.ensures ∙ ap (seeking a.threshold) one.before.before.seeker-at.ensures) ∙ not_false _ one.if1.false in
+    sym (one.before.seeks.ensures ∙ ap (seeking a.threshold) one.before.before.seeker-at.ensures) ∙ not-false _ one.if1.false in
     let no : seeks_at a.threshold a.sizes.now a.best ≡ false =
-    sym (c.before.seeks2.ensures ∙ ap (seeking a.threshold) c.before.before.seeker-at2.ensures) ∙ not_true _ c.if2.true in
+    sym (c.before.seeks2.ensures ∙ ap (seeking a.threshold) c.before.before.seeker-at2.ensures) ∙ not-true _ c.if2.true in
     rw (yes, no)
 
 comes-before-requires : tie.Need-comes-before-requires
@@ -49,9 +49,9 @@ returns-3 c =
     let one = two.before.before.before in
     let a = one.before.before.before.before.args in
     let yes : seeks_at a.threshold a.sizes.now a.i ≡ true =
-    sym (one.before.seeks.ensures ∙ ap (seeking a.threshold) one.before.before.seeker-at.ensures) ∙ not_false _ one.if1.false in
+    sym (one.before.seeks.ensures ∙ ap (seeking a.threshold) one.before.before.seeker-at.ensures) ∙ not-false _ one.if1.false in
     let yes₂ : seeks_at a.threshold a.sizes.now a.best ≡ true =
-    sym (two.before.seeks2.ensures ∙ ap (seeking a.threshold) two.before.before.seeker-at2.ensures) ∙ not_false _ two.if2.false in
+    sym (two.before.seeks2.ensures ∙ ap (seeking a.threshold) two.before.before.seeker-at2.ensures) ∙ not-false _ two.if2.false in
     let first : seeks_before a.sizes.now a.i a.best ≡ true =
     sym (c.before.comes-before.ensures
     ∙ ap₂ comes_first one.before.before.seeker-at.ensures two.before.before.seeker-at2.ensures) ∙ c.if3.true in
@@ -64,9 +64,9 @@ returns-4 c =
     let one = two.before.before.before in
     let a = one.before.before.before.before.args in
     let yes : seeks_at a.threshold a.sizes.now a.i ≡ true =
-    sym (one.before.seeks.ensures ∙ ap (seeking a.threshold) one.before.before.seeker-at.ensures) ∙ not_false _ one.if1.false in
+    sym (one.before.seeks.ensures ∙ ap (seeking a.threshold) one.before.before.seeker-at.ensures) ∙ not-false _ one.if1.false in
     let yes₂ : seeks_at a.threshold a.sizes.now a.best ≡ true =
-    sym (two.before.seeks2.ensures ∙ ap (seeking a.threshold) two.before.before.seeker-at2.ensures) ∙ not_false _ two.if2.false in
+    sym (two.before.seeks2.ensures ∙ ap (seeking a.threshold) two.before.before.seeker-at2.ensures) ∙ not-false _ two.if2.false in
     let later : seeks_before a.sizes.now a.i a.best ≡ false =
     sym (c.before.comes-before.ensures
     ∙ ap₂ comes_first one.before.before.seeker-at.ensures two.before.before.seeker-at2.ensures) ∙ c.if3.false in

@@ -4,7 +4,7 @@ use mathlib.Core.Bool.{true, false≢true}
 use mathlib.Core.List.{List, ◌++◌, Memᴰ}
 use mathlib.Core.Path.{◌≡◌, sym, ap, ◌∙◌, subst}
 use native.Mathlib.Omega.{arith}
-use borrow.Author.Tests.{eqb-true, not_true, not_false}
+use borrow.Author.Tests.{eqb-true, not-true, not-false}
 use lib.ListN.{length, get_or, take, drop}
 use lib.Seq.{length-take-le}
 use Rattle.walk.proofs.MarksUndone.{on_list, list_in, marks_undone}
@@ -55,7 +55,7 @@ found-fits w =
     omega (arith, list_within _ _ _ state, state.room)
 
 recursion-on : (w : tie.After-capture-all) → (entry (starts w)).args.recursive ≡ true
-recursion-on w = not_false (entry (starts w)).args.recursive w.before.before.before.before.before.if1.false
+recursion-on w = not-false (entry (starts w)).args.recursive w.before.before.before.before.before.if1.false
 
 slice-relend-prefix-store-starts : tie.Need-slice-relend-prefix-store-starts
 slice-relend-prefix-store-starts c = search rules
@@ -75,7 +75,7 @@ returns : tie.Need-returns
 returns c =
     let k = c.before.before.before in
     let s = entry k in
-    let off = not_true s.args.recursive c.if1.true in (
+    let off = not-true s.args.recursive c.if1.true in (
       record {
         alone = λ _. holds_starts s.args.order.now s.args.run.now _ k.store-starts.ensures;
         captured = λ on. absurd (false≢true (sym off ∙ on));

@@ -2,7 +2,7 @@
 use Prim.Native.Nat.{◌<◌}
 use mathlib.Core.Path.{sym, ◌∙◌}
 use native.Mathlib.Omega.{arith}
-use borrow.Author.Tests.{not_true, not_false}
+use borrow.Author.Tests.{not-true, not-false}
 use lib.ListN.{length}
 use Rattle.walk.proofs.State.{state_room}
 use Rattle.walk.proofs.Visit.{visit_ineligible, visit_marked, visit_new}
@@ -27,7 +27,7 @@ is-eligible-at-requires c κs = search rules
 returns-2 : tie.Need-returns-2
 returns-2 c =
     let s = c.before.before.before.before.before.before.before.before.args in
-    visit_ineligible s.flags.now _ s.named.0 (sym c.before.is-eligible-at.ensures ∙ not_true c.before.is-eligible-at.result c.if2.true)
+    visit_ineligible s.flags.now _ s.named.0 (sym c.before.is-eligible-at.ensures ∙ not-true c.before.is-eligible-at.result c.if2.true)
 
 slice-write-marks : tie.Need-slice-write-marks
 slice-write-marks c = search rules
@@ -57,7 +57,7 @@ same-length-2 c = search rules
 returns-3 : tie.Need-returns-3
 returns-3 c =
     let is = c.before.is-eligible-at in
-    let el = sym is.ensures ∙ not_false is.result c.if2.false in
+    let el = sym is.ensures ∙ not-false is.result c.if2.false in
     visit_new (entry c).args.flags.now _ (entry c).args.named.0 el c.before.before.if1.false
 
 pub visit-spec : {M : Type 1} → statement M

@@ -1,6 +1,6 @@
 -- `cut::scan::Best::consider` meets its contract: a cut that is passed over leaves the best as it is, and any other is compared with it.
 use mathlib.Core.Path.{sym, ◌∙◌}
-use borrow.Author.Tests.{not_true, not_false}
+use borrow.Author.Tests.{not-true, not-false}
 use Rattle.cut.specs.Candidate.{allowed}
 use Rattle.cut.proofs.Looking.{too_alike, not_allowed_lem, is_allowed}
 use borrow.Author.Rules.{rules}
@@ -18,14 +18,14 @@ both-reach-requires c κs = search rules
 
 returns-2 : tie.Need-returns-2
 unfolding allowed
-returns-2 c = sym (not_allowed_lem _ _ _ (sym c.before.both-reach.ensures ∙ not_true _ c.if2.true))
+returns-2 c = sym (not_allowed_lem _ _ _ (sym c.before.both-reach.ensures ∙ not-true _ c.if2.true))
 
 or-better-requires : tie.Need-or-better-requires
 or-better-requires c κs = search rules
 
 returns-3 : tie.Need-returns-3
 unfolding allowed
-returns-3 c = c.or-better.ensures ∙ sym (is_allowed _ _ _ (sym c.before.before.both-reach.ensures ∙ not_false _ c.before.if2.false))
+returns-3 c = c.or-better.ensures ∙ sym (is_allowed _ _ _ (sym c.before.before.both-reach.ensures ∙ not-false _ c.before.if2.false))
 
 pub consider-spec : {M : Type 1} → statement M
 consider-spec =
