@@ -4,7 +4,7 @@ use mathlib.Core.List.{List, [], ◌∷◌, map}
 use mathlib.Core.Path.{◌≡◌, refl, sym, ap, ◌∙◌}
 use native.Mathlib.Nat.{add-zero}
 use native.Mathlib.Omega.{arith}
-use borrow.Author.Rules.{length_unmapped, elem_fits_field}
+use borrow.Author.Rules.{elem_Fits}
 use denote.Array.{each}
 use denote.Plain.{UInt}
 use denote.Shadow.{shadow}
@@ -99,8 +99,5 @@ module _ (table : List ℕ) (k : ℕ) (h : 4 * k + 4 ≤ length table) where
 
 -- ---- a set that code holds: its array has four elements, each of which fits
 
-pub held : (s : BitSet) (us : List Val) → length (map (λ (v : ℕ). v) s.words) ≡ 4 → shadow (each ℕ (UInt w64).own_val (map (λ (v : ℕ). v) s.words) us) → Words s
-held s us four fit = record {
-  four = length_unmapped ℕ s.words 4 four;
-  small = λ w l. (elem_fits_field w64 w64 s.words us w fit tt).fits;
-}
+pub held : (s : BitSet) (us : List Val) → length s.words ≡ 4 → shadow (each ℕ (UInt w64).own_val s.words us) → Words s
+held s us four fit = record { four = four; small = λ w l. (elem_Fits w64 w64 s.words us w fit tt).fits }

@@ -1,0 +1,40 @@
+-- `utf8::text::is_utf8` meets its contract. The invariant: from the state on, the bytes from i on are text as the whole bytes are.
+use Prim.Native.Nat.{◌+◌, ◌-◌, ◌≤◌}
+use mathlib.Core.List.{[]}
+use mathlib.Core.Path.{◌≡◌, refl, sym, ◌∙◌, ap}
+use native.Mathlib.Omega.{arith}
+use lib.ListN.{length, drop, drop_of_length-le}
+use Rattle.utf8.specs.Utf8.{utf8}
+use Rattle.utf8.specs.States.{due_in, goes_from}
+use Rattle.utf8.proofs.StateLaws.{goes_nowhere, goes_ended, goes_next}
+use Rattle.utf8.proofs.text.is_utf8.Goals as goal
+
+pub loop-i-init : goal.loop-i-init
+unfolding goes_from due_in utf8
+loop-i-init c = (omega arith, refl)
+
+pub next_state-state-requires : goal.next_state-state-requires
+next_state-state-requires c = tt
+
+pub returns-then-state-ge-NO_TEXT : goal.returns-then-state-ge-NO_TEXT
+returns-then-state-ge-NO_TEXT c =
+    let a = c.args in
+    let s = c.loop-i in
+    let r = c.next_state-state in
+    sym (goes_nowhere r.result (drop (s.i + 1) a.bytes.now) c.if-state-ge-NO_TEXT.true)
+    ∙ goes_next a.bytes.now s.i s.state r.result (omega arith) r.ensures
+    ∙ s.invariant.1
+
+pub loop-i-preserved : goal.loop-i-preserved
+loop-i-preserved c =
+    let a = c.args in
+    let s = c.loop-i in
+    let r = c.next_state-state in
+    (omega arith, goes_next a.bytes.now s.i s.state r.result (omega arith) r.ensures ∙ s.invariant.1)
+
+pub returns : goal.returns
+returns c =
+    let a = c.args in
+    let s = c.loop-i in
+    let done : drop s.i a.bytes.now ≡ [] = drop_of_length-le a.bytes.now c.loop-i-test.false in
+    sym (goes_ended s.state) ∙ ap (goes_from s.state) (sym done) ∙ s.invariant.1
