@@ -34,6 +34,7 @@ rises n b (test m c ∷ ts) e =
 at_least : (k m : ℕ) {ts : List Test} → From k ts → Applies m ts → k ≤ m
 at_least k m (more p r) (here e t) = subst (λ (x : ℕ). k ≤ x) e p
 at_least k m (more p r) (there a) = at_least k m r a
+at_least k m none x3 = elim x3 [ ]
 
 -- a condition that applies makes the call refuse
 pub refuses : {A : Type 0} (a : A) (n : ℕ) {ts : List Test} → Applies n ts → (m : ℕ) × (outcome ts a ≡ refused m)
