@@ -1,0 +1,14 @@
+-- `forget::forget_all` meets its contract: with one chain more undone a turn, none of its records is marked any more.
+use Prim.Native.Nat.{◌-◌}
+use mathlib.Core.Path.{sym, ◌∙◌}
+use native.Mathlib.Omega.{arith}
+use mir.Facts.{Fits-32_64}
+use lib.ListN.{length}
+use Rattle.forget.proofs.Undoing.{AllForgetting, all_forget_begins, all_forget_turns, all_forget_ends, chain_ready}
+use Rattle.forget.proofs.forget_all.Given as goal
+
+abbrev pub invariant-loop-i : goal.invariant-loop-i
+invariant-loop-i l = AllForgetting l.first l.next l.list (length l.next - 1) l.i l.followed
+
+abbrev pub decreases-loop-i : goal.decreases-loop-i
+decreases-loop-i l = length l.list - l.i

@@ -1,0 +1,31 @@
+-- `name_tables::conditions::unordered_names` meets its contract. The invariant: the test of the names from k on gives what the whole test gives.
+use Prim.Native.Nat.{◌≤◌, ◌+◌, ◌-◌}
+use mathlib.Core.Path.{◌≡◌, refl, sym, ap₂, ◌∙◌}
+use native.Mathlib.Omega.{arith}
+use borrow.Author.Rules.{rules}
+use borrow.Author.Tests.{not-true, not-false}
+use lib.ListN.{drop}
+use Rattle.ids.specs.Order.{before}
+use Rattle.name_tables.specs.Names.{names_of}
+use Rattle.name_tables.specs.Conditions.{unordered}
+use Rattle.name_tables.proofs.NamesFrom.{name_in_table, all_ordered, one_pair}
+use Rattle.name_tables.proofs.conditions.unordered_names.Goals as goal
+
+pub loop-k-init : goal.loop-k-init
+loop-k-init c = (omega arith, refl)
+
+pub name_at-name-requires : goal.name_at-name-requires
+name_at-name-requires c =
+    let a = c.args in
+    name_in_table a.count a.bytes.now a.offsets.now c.requires c.loop-k.k (omega arith)
+
+pub name_at-requires : goal.name_at-requires
+name_at-requires c =
+    let a = c.args in
+    name_in_table a.count a.bytes.now a.offsets.now c.requires (c.loop-k.k + 1) (omega arith)
+
+pub returns : goal.returns
+returns c =
+    let a = c.args in
+    let s = c.loop-k in
+    sym (all_ordered a.count a.bytes.now a.offsets.now s.k c.loop-k-test.false) ∙ s.invariant.1

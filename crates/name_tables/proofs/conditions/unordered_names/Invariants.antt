@@ -1,0 +1,19 @@
+-- `name_tables::conditions::unordered_names` meets its contract. The invariant: the test of the names from k on gives what the whole test gives.
+use Prim.Native.Nat.{◌≤◌, ◌+◌, ◌-◌}
+use mathlib.Core.Path.{◌≡◌, refl, sym, ap₂, ◌∙◌}
+use native.Mathlib.Omega.{arith}
+use borrow.Author.Rules.{rules}
+use borrow.Author.Tests.{not-true, not-false}
+use lib.ListN.{drop}
+use Rattle.ids.specs.Order.{before}
+use Rattle.name_tables.specs.Names.{names_of}
+use Rattle.name_tables.specs.Conditions.{unordered}
+use Rattle.name_tables.proofs.NamesFrom.{name_in_table, all_ordered, one_pair}
+use Rattle.name_tables.proofs.conditions.unordered_names.Given as goal
+
+abbrev pub invariant-loop-k : goal.invariant-loop-k
+invariant-loop-k l =
+    (l.k ≤ l.count) × (unordered (drop l.k (names_of l.count l.bytes l.offsets)) ≡ unordered (names_of l.count l.bytes l.offsets))
+
+abbrev pub decreases-loop-k : goal.decreases-loop-k
+decreases-loop-k l = l.count - l.k

@@ -1,0 +1,38 @@
+-- `similarity::similarity_within` meets its contract. The invariant: the score so far and the similarity from byte i on add to the
+-- whole similarity, and the score is at most 10 for each byte passed.
+use Prim.Native.Nat.{◌+◌, ◌-◌, ◌*◌, ◌≤◌}
+use mathlib.Core.Path.{◌≡◌}
+use native.Mathlib.Nat.{zero-add}
+use native.Mathlib.Omega.{arith}
+use borrow.Author.Rules.{rules}
+use lib.ListN.{drop}
+use Rattle.similarity.specs.Similarity.{similarity}
+use Rattle.similarity.proofs.SimilarityLaws.{byte_score_le, from_done, from_pair}
+use Rattle.similarity.proofs.similarity_within.Goals as goal
+
+pub loop-i-init : goal.loop-i-init
+loop-i-init c = (omega arith, zero-add _, omega arith)
+
+pub overflow_cast-score : goal.overflow_cast-score
+overflow_cast-score c =
+    let le : c.byte_score.result ≤ 10 = rw c.byte_score.ensures (byte_score_le _ _) in
+    omega arith
+
+pub overflow_add-score : goal.overflow_add-score
+overflow_add-score c =
+    let le : c.byte_score.result ≤ 10 = rw c.byte_score.ensures (byte_score_le _ _) in
+    omega arith
+
+pub loop-i-preserved : goal.loop-i-preserved
+loop-i-preserved c =
+    let a = c.args in
+    let s = c.loop-i in
+    let le : c.byte_score.result ≤ 10 = rw c.byte_score.ensures (byte_score_le _ _) in
+    let step = from_pair a.lhs.now a.rhs.now s.i (omega arith) (omega arith) in
+    (omega arith, omega (arith, c.byte_score.ensures, step, s.invariant.1), omega arith)
+
+pub returns : goal.returns
+returns c =
+    let a = c.args in
+    let s = c.loop-i in
+    omega (arith, from_done a.lhs.now a.rhs.now s.i (omega arith), s.invariant.1)
