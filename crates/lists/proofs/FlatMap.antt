@@ -22,7 +22,7 @@ module _ {A B : Type 0} (f : A → List B) where
       go rest =
           ⊎_elim (λ i. (x, Memᴰ.head refl, i)) (λ i. let s = rest i in (s.0, Memᴰ.tail s.1, s.2)) (Memᴰ.append_cases (f x) m)
 
-  pub mem_flat_map : {l : List A} (x : A) (y : B) → Memᴰ x l → Memᴰ y (f x) → Memᴰ y (flat_map f l)
+  pub mem_flat_map : (x : A) {l : List A} (y : B) → Memᴰ x l → Memᴰ y (f x) → Memᴰ y (flat_map f l)
   unfolding flat_map
   mem_flat_map x y (Memᴰ.head {xs = l} e) i = Memᴰ.append_left (flat_map f l) (subst (λ (v : A). Memᴰ y (f v)) e i)
   mem_flat_map x y (Memᴰ.tail {x = z} m) i = Memᴰ.append_right (f z) (mem_flat_map x y m i)

@@ -37,7 +37,7 @@ keep_mem {A} p (y ∷ l) x m = go (p y) refl m (keep_mem p l x)
     go true e m rest = ⊎_elim (λ q. (Memᴰ.head q, ap p q ∙ e)) (λ t. let s = rest t in (Memᴰ.tail s.0, s.1)) (Memᴰ.cases_cons m)
     go false e m rest = let s = rest m in (Memᴰ.tail s.0, s.1)
 
-pub mem_keep : {A : Type 0} (p : A → Bool) {l : List A} (x : A) → Memᴰ x l → p x ≡ true → Memᴰ x (keep p l)
+pub mem_keep : {A : Type 0} (p : A → Bool) (x : A) {l : List A} → Memᴰ x l → p x ≡ true → Memᴰ x (keep p l)
 unfolding keep keep_head
 mem_keep p x (Memᴰ.head {x = y} {xs = l} q) e = let t : p y ≡ true = ap p (sym q) ∙ e in rw t (Memᴰ.head q)
 mem_keep {A} p x (Memᴰ.tail {x = y} {xs = l} m) e = go (p y) (mem_keep p x m e)
