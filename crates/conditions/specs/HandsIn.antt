@@ -72,14 +72,14 @@ area_lengths a =
     let m = a.modules in
     let r = a.records in
     record {
-      chunk_of = length m.chunk-of;
-      next_of = length m.next-of;
-      first_of = length r.first-of;
-      group_of = length r.group-of;
-      name_of = length r.name-of;
-      size_of = length r.size_of_lem;
-      bits_of = length r.bits_of_lem;
-      mark_of = length r.mark-of;
+      chunk_of = length m.chunk_of;
+      next_of = length m.next_of;
+      first_of = length r.first_of;
+      group_of = length r.group_of;
+      name_of = length r.name_of;
+      size_of = length r.size_of;
+      bits_of = length r.bits_of;
+      mark_of = length r.mark_of;
     }
 
 -- ---- tables

@@ -45,28 +45,28 @@ pub fn emit_chunk(
     mark_of: &mut [u8],
 )
     requires room { Room bits.now members.now (record {
-      chunk-of = chunk_of.old;
-      group-of = group_of.old;
-      name-of = name_of.old;
-      size_of_lem = size_of.old;
-      bits_of_lem = bits_of.old;
-      mark-of = mark_of.old;
+      chunk_of = chunk_of.old;
+      group_of = group_of.old;
+      name_of = name_of.old;
+      size_of = size_of.old;
+      bits_of = bits_of.old;
+      mark_of = mark_of.old;
     }) at }
     requires number_bound { number.0 + 1 < 2 ^ 32 }
     ensures { record {
-      chunk-of = chunk_of.new;
-      group-of = group_of.new;
-      name-of = name_of.new;
-      size_of_lem = size_of.new;
-      bits_of_lem = bits_of.new;
-      mark-of = mark_of.new;
+      chunk_of = chunk_of.new;
+      group_of = group_of.new;
+      name_of = name_of.new;
+      size_of = size_of.new;
+      bits_of = bits_of.new;
+      mark_of = mark_of.new;
     } ≡ with_chunk bits.now number.0 at (record { head = head; modules = members.now; size = size; mark = mark }) (record {
-      chunk-of = chunk_of.old;
-      group-of = group_of.old;
-      name-of = name_of.old;
-      size_of_lem = size_of.old;
-      bits_of_lem = bits_of.old;
-      mark-of = mark_of.old;
+      chunk_of = chunk_of.old;
+      group_of = group_of.old;
+      name_of = name_of.old;
+      size_of = size_of.old;
+      bits_of = bits_of.old;
+      mark_of = mark_of.old;
     }) }
 {
     let own = chunk_bits(head, bits, members);
@@ -95,30 +95,30 @@ pub fn emit_parts(
     mark_of: &mut [u8],
 )
     requires parts { Parts bits.now members.now starts.now sizes.now marks.now (record {
-      chunk-of = chunk_of.old;
-      group-of = group_of.old;
-      name-of = name_of.old;
-      size_of_lem = size_of.old;
-      bits_of_lem = bits_of.old;
-      mark-of = mark_of.old;
+      chunk_of = chunk_of.old;
+      group_of = group_of.old;
+      name_of = name_of.old;
+      size_of = size_of.old;
+      bits_of = bits_of.old;
+      mark_of = mark_of.old;
     }) at }
     requires starts_bound { number.0 + length starts.now < 2 ^ 32 }
     ensures { record {
-      chunk-of = chunk_of.new;
-      group-of = group_of.new;
-      name-of = name_of.new;
-      size_of_lem = size_of.new;
-      bits_of_lem = bits_of.new;
-      mark-of = mark_of.new;
+      chunk_of = chunk_of.new;
+      group_of = group_of.new;
+      name_of = name_of.new;
+      size_of = size_of.new;
+      bits_of = bits_of.new;
+      mark_of = mark_of.new;
     } ≡ with_chunks bits.now number.0 at
         (emissions head (parts_from members.now (length members.now) starts.now)
         sizes.now marks.now) (record {
-          chunk-of = chunk_of.old;
-          group-of = group_of.old;
-          name-of = name_of.old;
-          size_of_lem = size_of.old;
-          bits_of_lem = bits_of.old;
-          mark-of = mark_of.old;
+          chunk_of = chunk_of.old;
+          group_of = group_of.old;
+          name_of = name_of.old;
+          size_of = size_of.old;
+          bits_of = bits_of.old;
+          mark_of = mark_of.old;
         }) }
 {
     let mut end = members.len();

@@ -45,12 +45,12 @@ fn convert_divided(
       sizes = sizes.now;
       rank = rank.now;
     }) bits.now number.0 at (record {
-      chunk-of = chunk_of.old;
-      group-of = group_of.old;
-      name-of = name_of.old;
-      size_of_lem = size_of.old;
-      bits_of_lem = bits_of.old;
-      mark-of = mark_of.old;
+      chunk_of = chunk_of.old;
+      group_of = group_of.old;
+      name_of = name_of.old;
+      size_of = size_of.old;
+      bits_of = bits_of.old;
+      mark_of = mark_of.old;
     }) set.now settings.threshold kind_bits.now divided.now members.old }
     ensures { SetTurned (record {
       bytes = bytes.entry.now;
@@ -59,19 +59,19 @@ fn convert_divided(
       rank = rank.now;
     }) bits.now set.now
         (λ tree places. in_turn tree (divided_items settings group name tree places)) number.0 at result (record {
-          chunk-of = chunk_of.old;
-          group-of = group_of.old;
-          name-of = name_of.old;
-          size_of_lem = size_of.old;
-          bits_of_lem = bits_of.old;
-          mark-of = mark_of.old;
+          chunk_of = chunk_of.old;
+          group_of = group_of.old;
+          name_of = name_of.old;
+          size_of = size_of.old;
+          bits_of = bits_of.old;
+          mark_of = mark_of.old;
         }) (record {
-          chunk-of = chunk_of.new;
-          group-of = group_of.new;
-          name-of = name_of.new;
-          size_of_lem = size_of.new;
-          bits_of_lem = bits_of.new;
-          mark-of = mark_of.new;
+          chunk_of = chunk_of.new;
+          group_of = group_of.new;
+          name_of = name_of.new;
+          size_of = size_of.new;
+          bits_of = bits_of.new;
+          mark_of = mark_of.new;
         }) }
 {
     let mut list = [0u32; 4096];
@@ -146,12 +146,12 @@ fn convert_few(
       sizes = sizes.now;
       rank = rank.now;
     }) bits.now number.0 at (record {
-      chunk-of = chunk_of.old;
-      group-of = group_of.old;
-      name-of = name_of.old;
-      size_of_lem = size_of.old;
-      bits_of_lem = bits_of.old;
-      mark-of = mark_of.old;
+      chunk_of = chunk_of.old;
+      group_of = group_of.old;
+      name_of = name_of.old;
+      size_of = size_of.old;
+      bits_of = bits_of.old;
+      mark_of = mark_of.old;
     }) set.now }
     requires set_len_bound { (length set.now ≤ 1024) × (length set.now ≤ n) × (n ≤ 4096) × (3 * n ≤ length scratch.old) }
     ensures set_turned { SetTurned (record {
@@ -161,19 +161,19 @@ fn convert_few(
       rank = rank.now;
     }) bits.now set.now
         (λ tree places. in_turn tree (divided_items settings group name tree places)) number.0 at result (record {
-          chunk-of = chunk_of.old;
-          group-of = group_of.old;
-          name-of = name_of.old;
-          size_of_lem = size_of.old;
-          bits_of_lem = bits_of.old;
-          mark-of = mark_of.old;
+          chunk_of = chunk_of.old;
+          group_of = group_of.old;
+          name_of = name_of.old;
+          size_of = size_of.old;
+          bits_of = bits_of.old;
+          mark_of = mark_of.old;
         }) (record {
-          chunk-of = chunk_of.new;
-          group-of = group_of.new;
-          name-of = name_of.new;
-          size_of_lem = size_of.new;
-          bits_of_lem = bits_of.new;
-          mark-of = mark_of.new;
+          chunk_of = chunk_of.new;
+          group_of = group_of.new;
+          name_of = name_of.new;
+          size_of = size_of.new;
+          bits_of = bits_of.new;
+          mark_of = mark_of.new;
         }) }
     ensures scratch_len_unchanged { length scratch.new ≡ length scratch.old }
 {
@@ -242,12 +242,12 @@ fn convert_many(
       sizes = sizes.now;
       rank = rank.now;
     }) bits.now number.0 at (record {
-      chunk-of = chunk_of.old;
-      group-of = group_of.old;
-      name-of = name_of.old;
-      size_of_lem = size_of.old;
-      bits_of_lem = bits_of.old;
-      mark-of = mark_of.old;
+      chunk_of = chunk_of.old;
+      group_of = group_of.old;
+      name_of = name_of.old;
+      size_of = size_of.old;
+      bits_of = bits_of.old;
+      mark_of = mark_of.old;
     }) set.now }
     requires set_len_bound { (length set.now ≤ n) × (n ≤ 4096) × (3 * n ≤ length scratch.old) }
     ensures set_turned { SetTurned (record {
@@ -257,19 +257,19 @@ fn convert_many(
       rank = rank.now;
     }) bits.now set.now
         (λ tree places. in_turn tree (divided_items settings group name tree places)) number.0 at result (record {
-          chunk-of = chunk_of.old;
-          group-of = group_of.old;
-          name-of = name_of.old;
-          size_of_lem = size_of.old;
-          bits_of_lem = bits_of.old;
-          mark-of = mark_of.old;
+          chunk_of = chunk_of.old;
+          group_of = group_of.old;
+          name_of = name_of.old;
+          size_of = size_of.old;
+          bits_of = bits_of.old;
+          mark_of = mark_of.old;
         }) (record {
-          chunk-of = chunk_of.new;
-          group-of = group_of.new;
-          name-of = name_of.new;
-          size_of_lem = size_of.new;
-          bits_of_lem = bits_of.new;
-          mark-of = mark_of.new;
+          chunk_of = chunk_of.new;
+          group_of = group_of.new;
+          name_of = name_of.new;
+          size_of = size_of.new;
+          bits_of = bits_of.new;
+          mark_of = mark_of.new;
         }) }
     ensures scratch_len_unchanged { length scratch.new ≡ length scratch.old }
 {
@@ -339,12 +339,12 @@ pub fn convert_subgroups(
       sizes = sizes.now;
       rank = rank.now;
     }) bits.now number.0 at (record {
-      chunk-of = chunk_of.old;
-      group-of = group_of.old;
-      name-of = name_of.old;
-      size_of_lem = size_of.old;
-      bits_of_lem = bits_of.old;
-      mark-of = mark_of.old;
+      chunk_of = chunk_of.old;
+      group_of = group_of.old;
+      name_of = name_of.old;
+      size_of = size_of.old;
+      bits_of = bits_of.old;
+      mark_of = mark_of.old;
     }) set.now }
     requires set_len_bound { (length set.now ≤ n) × (n ≤ 4096) × (3 * n ≤ length scratch.old) }
     ensures set_turned { SetTurned (record {
@@ -354,19 +354,19 @@ pub fn convert_subgroups(
       rank = rank.now;
     }) bits.now set.now
         (λ tree places. in_turn tree (divided_items settings group name tree places)) number.0 at result (record {
-          chunk-of = chunk_of.old;
-          group-of = group_of.old;
-          name-of = name_of.old;
-          size_of_lem = size_of.old;
-          bits_of_lem = bits_of.old;
-          mark-of = mark_of.old;
+          chunk_of = chunk_of.old;
+          group_of = group_of.old;
+          name_of = name_of.old;
+          size_of = size_of.old;
+          bits_of = bits_of.old;
+          mark_of = mark_of.old;
         }) (record {
-          chunk-of = chunk_of.new;
-          group-of = group_of.new;
-          name-of = name_of.new;
-          size_of_lem = size_of.new;
-          bits_of_lem = bits_of.new;
-          mark-of = mark_of.new;
+          chunk_of = chunk_of.new;
+          group_of = group_of.new;
+          name_of = name_of.new;
+          size_of = size_of.new;
+          bits_of = bits_of.new;
+          mark_of = mark_of.new;
         }) }
     ensures scratch_len_unchanged { length scratch.new ≡ length scratch.old }
 {

@@ -50,12 +50,12 @@ fn convert_group(
         (record { flags = flags.now; first = first.now; dependency = dependency.now; next = next.now; order = order.now }) bits.now
         settings group (record { answers = answers.now; tags = tags.now; shares = shares.now }) number.0 at
         (record {
-          chunk-of = chunk_of.old;
-          group-of = group_of.old;
-          name-of = name_of.old;
-          size_of_lem = size_of.old;
-          bits_of_lem = bits_of.old;
-          mark-of = mark_of.old;
+          chunk_of = chunk_of.old;
+          group_of = group_of.old;
+          name_of = name_of.old;
+          size_of = size_of.old;
+          bits_of = bits_of.old;
+          mark_of = mark_of.old;
         }) }
     requires names_room { NamesRoom n flags.now order.now place.now marks.old followed.old set.old scratch.old
         × (length order.now ≤ length matched.old)
@@ -75,20 +75,20 @@ fn convert_group(
         }) bits.now
         settings group (record { answers = answers.entry.now; tags = tags.now; shares = shares.now }) number.0 at result
         (record {
-          chunk-of = chunk_of.old;
-          group-of = group_of.old;
-          name-of = name_of.old;
-          size_of_lem = size_of.old;
-          bits_of_lem = bits_of.old;
-          mark-of = mark_of.old;
+          chunk_of = chunk_of.old;
+          group_of = group_of.old;
+          name_of = name_of.old;
+          size_of = size_of.old;
+          bits_of = bits_of.old;
+          mark_of = mark_of.old;
         })
         (record {
-          chunk-of = chunk_of.new;
-          group-of = group_of.new;
-          name-of = name_of.new;
-          size_of_lem = size_of.new;
-          bits_of_lem = bits_of.new;
-          mark-of = mark_of.new;
+          chunk_of = chunk_of.new;
+          group_of = group_of.new;
+          name_of = name_of.new;
+          size_of = size_of.new;
+          bits_of = bits_of.new;
+          mark_of = mark_of.new;
         }) }
     ensures marks_len_unchanged { (length marks.new ≡ length marks.old) × (length set.new ≡ length set.old)
         × (length matched.new ≡ length matched.old)
@@ -161,12 +161,12 @@ pub fn convert_groups_to_chunks(
         (record { flags = flags.now; first = first.now; dependency = dependency.now; next = next.now; order = order.now }) bits.now
         settings turns.now (record { answers = answers.now; tags = tags.now; shares = shares.now }) n number.0 at
         (record {
-          chunk-of = chunk_of.old;
-          group-of = group_of.old;
-          name-of = name_of.old;
-          size_of_lem = size_of.old;
-          bits_of_lem = bits_of.old;
-          mark-of = mark_of.old;
+          chunk_of = chunk_of.old;
+          group_of = group_of.old;
+          name_of = name_of.old;
+          size_of = size_of.old;
+          bits_of = bits_of.old;
+          mark_of = mark_of.old;
         }) }
     requires n_in_bounds { 3 * n ≤ length scratch.old }
     ensures groups_turned { GroupsTurned (record {
@@ -188,20 +188,20 @@ pub fn convert_groups_to_chunks(
           shares = shares.now;
         }) n number.0 at result
         (record {
-          chunk-of = chunk_of.old;
-          group-of = group_of.old;
-          name-of = name_of.old;
-          size_of_lem = size_of.old;
-          bits_of_lem = bits_of.old;
-          mark-of = mark_of.old;
+          chunk_of = chunk_of.old;
+          group_of = group_of.old;
+          name_of = name_of.old;
+          size_of = size_of.old;
+          bits_of = bits_of.old;
+          mark_of = mark_of.old;
         })
         (record {
-          chunk-of = chunk_of.new;
-          group-of = group_of.new;
-          name-of = name_of.new;
-          size_of_lem = size_of.new;
-          bits_of_lem = bits_of.new;
-          mark-of = mark_of.new;
+          chunk_of = chunk_of.new;
+          group_of = group_of.new;
+          name_of = name_of.new;
+          size_of = size_of.new;
+          bits_of = bits_of.new;
+          mark_of = mark_of.new;
         }) }
     ensures scratch_len_unchanged { length scratch.new ≡ length scratch.old }
 {

@@ -60,12 +60,12 @@ fn emit_over_maximum(
       sizes = sizes.now;
       rank = rank.now;
     }) bits.now members.old (record {
-      chunk-of = chunk_of.old;
-      group-of = group_of.old;
-      name-of = name_of.old;
-      size_of_lem = size_of.old;
-      bits_of_lem = bits_of.old;
-      mark-of = mark_of.old;
+      chunk_of = chunk_of.old;
+      group_of = group_of.old;
+      name_of = name_of.old;
+      size_of = size_of.old;
+      bits_of = bits_of.old;
+      mark_of = mark_of.old;
     }) number.0 at }
     requires totalled { Totalled sizes.now members.old total }
     ensures { Converted (in_pieces (record {
@@ -74,19 +74,19 @@ fn emit_over_maximum(
       sizes = sizes.now;
       rank = rank.now;
     }) head minimum maximum members.old) bits.now number.0 at result (record {
-      chunk-of = chunk_of.old;
-      group-of = group_of.old;
-      name-of = name_of.old;
-      size_of_lem = size_of.old;
-      bits_of_lem = bits_of.old;
-      mark-of = mark_of.old;
+      chunk_of = chunk_of.old;
+      group_of = group_of.old;
+      name_of = name_of.old;
+      size_of = size_of.old;
+      bits_of = bits_of.old;
+      mark_of = mark_of.old;
     }) (record {
-      chunk-of = chunk_of.new;
-      group-of = group_of.new;
-      name-of = name_of.new;
-      size_of_lem = size_of.new;
-      bits_of_lem = bits_of.new;
-      mark-of = mark_of.new;
+      chunk_of = chunk_of.new;
+      group_of = group_of.new;
+      name_of = name_of.new;
+      size_of = size_of.new;
+      bits_of = bits_of.new;
+      mark_of = mark_of.new;
     }) }
 {
     in_id_order(rank, members);
@@ -122,12 +122,12 @@ fn emit_item(
       sizes = sizes.now;
       rank = rank.now;
     }) bits.now members.old (record {
-      chunk-of = chunk_of.old;
-      group-of = group_of.old;
-      name-of = name_of.old;
-      size_of_lem = size_of.old;
-      bits_of_lem = bits_of.old;
-      mark-of = mark_of.old;
+      chunk_of = chunk_of.old;
+      group_of = group_of.old;
+      name_of = name_of.old;
+      size_of = size_of.old;
+      bits_of = bits_of.old;
+      mark_of = mark_of.old;
     }) number.0 at }
     requires totalled { Totalled sizes.now members.old total }
     ensures { Converted (emitted_within limits.maximum (record {
@@ -136,19 +136,19 @@ fn emit_item(
       sizes = sizes.now;
       rank = rank.now;
     }) head limits.minimum members.old) bits.now number.0 at result (record {
-      chunk-of = chunk_of.old;
-      group-of = group_of.old;
-      name-of = name_of.old;
-      size_of_lem = size_of.old;
-      bits_of_lem = bits_of.old;
-      mark-of = mark_of.old;
+      chunk_of = chunk_of.old;
+      group_of = group_of.old;
+      name_of = name_of.old;
+      size_of = size_of.old;
+      bits_of = bits_of.old;
+      mark_of = mark_of.old;
     }) (record {
-      chunk-of = chunk_of.new;
-      group-of = group_of.new;
-      name-of = name_of.new;
-      size_of_lem = size_of.new;
-      bits_of_lem = bits_of.new;
-      mark-of = mark_of.new;
+      chunk_of = chunk_of.new;
+      group_of = group_of.new;
+      name_of = name_of.new;
+      size_of = size_of.new;
+      bits_of = bits_of.new;
+      mark_of = mark_of.new;
     }) }
 {
     let minimum = limits.minimum;
@@ -214,12 +214,12 @@ pub fn convert_item_to_chunks(
       sizes = sizes.now;
       rank = rank.now;
     }) bits.now (untaken chunk_of.old list.now) (record {
-      chunk-of = chunk_of.old;
-      group-of = group_of.old;
-      name-of = name_of.old;
-      size_of_lem = size_of.old;
-      bits_of_lem = bits_of.old;
-      mark-of = mark_of.old;
+      chunk_of = chunk_of.old;
+      group_of = group_of.old;
+      name_of = name_of.old;
+      size_of = size_of.old;
+      bits_of = bits_of.old;
+      mark_of = mark_of.old;
     }) number.0 at }
     requires listed { Listed chunk_of.old list.now members.old }
     ensures converted { Converted (emitted_from (record {
@@ -228,19 +228,19 @@ pub fn convert_item_to_chunks(
       sizes = sizes.now;
       rank = rank.now;
     }) head limits (untaken chunk_of.old list.now)) bits.now number.0 at result (record {
-      chunk-of = chunk_of.old;
-      group-of = group_of.old;
-      name-of = name_of.old;
-      size_of_lem = size_of.old;
-      bits_of_lem = bits_of.old;
-      mark-of = mark_of.old;
+      chunk_of = chunk_of.old;
+      group_of = group_of.old;
+      name_of = name_of.old;
+      size_of = size_of.old;
+      bits_of = bits_of.old;
+      mark_of = mark_of.old;
     }) (record {
-      chunk-of = chunk_of.new;
-      group-of = group_of.new;
-      name-of = name_of.new;
-      size_of_lem = size_of.new;
-      bits_of_lem = bits_of.new;
-      mark-of = mark_of.new;
+      chunk_of = chunk_of.new;
+      group_of = group_of.new;
+      name_of = name_of.new;
+      size_of = size_of.new;
+      bits_of = bits_of.new;
+      mark_of = mark_of.new;
     }) }
     ensures members_len_unchanged { length members.new ≡ length members.old }
 {

@@ -50,14 +50,14 @@ fn run_laid(
       walking = record { flags = flags.now; first = first.now; dependency = dependency.now; next = next.now; order = by_order.now };
     })
         on_entry at (record {
-          modules = record { chunk-of = chunk_of.old; next-of = next_of.old };
+          modules = record { chunk_of = chunk_of.old; next_of = next_of.old };
           records = record {
-            first-of = first_of.old;
-            group-of = group_of.old;
-            name-of = name_of.old;
-            size_of_lem = size_of.old;
-            bits_of_lem = bits_of.old;
-            mark-of = mark_of.old;
+            first_of = first_of.old;
+            group_of = group_of.old;
+            name_of = name_of.old;
+            size_of = size_of.old;
+            bits_of = bits_of.old;
+            mark_of = mark_of.old;
           };
           scratch = scratch.old;
         }) }
@@ -77,26 +77,26 @@ fn run_laid(
       };
     })
         on_entry at result (record {
-          modules = record { chunk-of = chunk_of.old; next-of = next_of.old };
+          modules = record { chunk_of = chunk_of.old; next_of = next_of.old };
           records = record {
-            first-of = first_of.old;
-            group-of = group_of.old;
-            name-of = name_of.old;
-            size_of_lem = size_of.old;
-            bits_of_lem = bits_of.old;
-            mark-of = mark_of.old;
+            first_of = first_of.old;
+            group_of = group_of.old;
+            name_of = name_of.old;
+            size_of = size_of.old;
+            bits_of = bits_of.old;
+            mark_of = mark_of.old;
           };
           scratch = scratch.old;
         })
         (record {
-          modules = record { chunk-of = chunk_of.new; next-of = next_of.new };
+          modules = record { chunk_of = chunk_of.new; next_of = next_of.new };
           records = record {
-            first-of = first_of.new;
-            group-of = group_of.new;
-            name-of = name_of.new;
-            size_of_lem = size_of.new;
-            bits_of_lem = bits_of.new;
-            mark-of = mark_of.new;
+            first_of = first_of.new;
+            group_of = group_of.new;
+            name_of = name_of.new;
+            size_of = size_of.new;
+            bits_of = bits_of.new;
+            mark_of = mark_of.new;
           };
           scratch = scratch.new;
         }) }
@@ -191,14 +191,14 @@ pub fn run_side_by_side(
       walking = record { flags = flags.now; first = first.now; dependency = dependency.now; next = next.now; order = by_order.now };
     })
         on_entry at (record {
-          modules = record { chunk-of = chunk_of.old; next-of = next_of.old };
+          modules = record { chunk_of = chunk_of.old; next_of = next_of.old };
           records = record {
-            first-of = first_of.old;
-            group-of = group_of.old;
-            name-of = name_of.old;
-            size_of_lem = size_of.old;
-            bits_of_lem = bits_of.old;
-            mark-of = mark_of.old;
+            first_of = first_of.old;
+            group_of = group_of.old;
+            name_of = name_of.old;
+            size_of = size_of.old;
+            bits_of = bits_of.old;
+            mark_of = mark_of.old;
           };
           scratch = scratch.old;
         }) }
@@ -218,26 +218,26 @@ pub fn run_side_by_side(
       };
     })
         on_entry at result (record {
-          modules = record { chunk-of = chunk_of.old; next-of = next_of.old };
+          modules = record { chunk_of = chunk_of.old; next_of = next_of.old };
           records = record {
-            first-of = first_of.old;
-            group-of = group_of.old;
-            name-of = name_of.old;
-            size_of_lem = size_of.old;
-            bits_of_lem = bits_of.old;
-            mark-of = mark_of.old;
+            first_of = first_of.old;
+            group_of = group_of.old;
+            name_of = name_of.old;
+            size_of = size_of.old;
+            bits_of = bits_of.old;
+            mark_of = mark_of.old;
           };
           scratch = scratch.old;
         })
         (record {
-          modules = record { chunk-of = chunk_of.new; next-of = next_of.new };
+          modules = record { chunk_of = chunk_of.new; next_of = next_of.new };
           records = record {
-            first-of = first_of.new;
-            group-of = group_of.new;
-            name-of = name_of.new;
-            size_of_lem = size_of.new;
-            bits_of_lem = bits_of.new;
-            mark-of = mark_of.new;
+            first_of = first_of.new;
+            group_of = group_of.new;
+            name_of = name_of.new;
+            size_of = size_of.new;
+            bits_of = bits_of.new;
+            mark_of = mark_of.new;
           };
           scratch = scratch.new;
         }) }

@@ -8,9 +8,9 @@ use index::ModuleIdx;
 
 // Pushes a module to the front of the chain of record `slot`.
 fn push_front(m: ModuleIdx, slot: usize, next_of: &mut [u32], first_of: &mut [u32])
-    requires { Pushable m.0 slot (record { next-of = next_of.old; first-of = first_of.old }) }
-    ensures { record { next-of = next_of.new; first-of = first_of.new }
-        ≡ pushed_at slot m.0 (record { next-of = next_of.old; first-of = first_of.old }) }
+    requires { Pushable m.0 slot (record { next_of = next_of.old; first_of = first_of.old }) }
+    ensures { record { next_of = next_of.new; first_of = first_of.new }
+        ≡ pushed_at slot m.0 (record { next_of = next_of.old; first_of = first_of.old }) }
 {
     let place = m.0 as usize;
     next_of[place] = first_of[slot];
@@ -26,10 +26,10 @@ pub fn link(
     next_of: &mut [u32],
     first_of: &mut [u32],
 )
-    requires { Linkable order.now chunk_of.now base at (record { next-of = next_of.old; first-of = first_of.old }) }
-    ensures { record { next-of = next_of.new; first-of = first_of.new }
+    requires { Linkable order.now chunk_of.now base at (record { next_of = next_of.old; first_of = first_of.old }) }
+    ensures { record { next_of = next_of.new; first_of = first_of.new }
         ≡ linked chunk_of.now base at order.now
-        (record { next-of = next_of.old; first-of = first_of.old }) }
+        (record { next_of = next_of.old; first_of = first_of.old }) }
 {
     let mut left = order.len();
     while 0 < left {

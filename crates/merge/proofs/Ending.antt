@@ -17,7 +17,7 @@ use Rattle.bitset.specs.Entries.{row_of}
 use Rattle.joins.specs.Subgroup.{Subgroup, smaller}
 use Rattle.joins.proofs.Doubles.{reads_back}
 use Rattle.merge.specs.Merge.{Merging}
-use Rattle.merge.specs.Tables.{subgroup_at, still_there, sizeOf, bitsOf, final_sizes, final_bits}
+use Rattle.merge.specs.Tables.{subgroup_at, still_there, size_of, bits_of, final_sizes, final_bits}
 use Rattle.merge.specs.Engine.{is_there, there_in, state_of, Sound, Final}
 use Rattle.merge.proofs.There.{small_size}
 use Rattle.bitset.proofs.Rows.{all_rows, same_rows}
@@ -48,12 +48,12 @@ module _ (numbers sizes bits : List ℕ) (z : Sound numbers sizes bits) where
   unfolding found
   found_there i h e = still i h ∙ ap (λ b. found b (subgroup_at sizes bits i)) e
 
-  size_of_lem : (i : ℕ) → i < length numbers → (b : Bool) → is_there numbers i ≡ b → sizeOf (found b (subgroup_at sizes bits i)) ≡ get_or sizes i 0
+  size_of_lem : (i : ℕ) → i < length numbers → (b : Bool) → is_there numbers i ≡ b → size_of (found b (subgroup_at sizes bits i)) ≡ get_or sizes i 0
   unfolding found subgroup_at
   size_of_lem i h true e = reads_back (get_or sizes i 0) (small_size z.tables i h)
   size_of_lem i h false e = sym (z.no_size i h e)
 
-  bits_of_lem : (i : ℕ) → i < length numbers → (b : Bool) → is_there numbers i ≡ b → bitsOf (found b (subgroup_at sizes bits i)) ≡ row_of bits i
+  bits_of_lem : (i : ℕ) → i < length numbers → (b : Bool) → is_there numbers i ≡ b → bits_of (found b (subgroup_at sizes bits i)) ≡ row_of bits i
   unfolding found subgroup_at
   bits_of_lem i h true e = refl
   bits_of_lem i h false e = sym (z.no_bits i h e)
@@ -61,18 +61,18 @@ module _ (numbers sizes bits : List ℕ) (z : Sound numbers sizes bits) where
   sizes_final : final_sizes (length numbers) (state_of numbers sizes bits) ≡ sizes
   unfolding final_sizes
   sizes_final =
-      map_range (λ i. sizeOf (still_there i (there_in numbers sizes bits))) (λ i. get_or sizes i 0) 0 (length numbers)
+      map_range (λ i. size_of (still_there i (there_in numbers sizes bits))) (λ i. get_or sizes i 0) 0 (length numbers)
       (λ i h.
       let is : 0 + i ≡ i = zero-add i in
-      ap (λ j. sizeOf (still_there j (there_in numbers sizes bits))) is ∙ ap sizeOf (still i h) ∙ size_of_lem i h (is_there numbers i) refl ∙ ap (λ j. get_or sizes j 0) (sym is))
+      ap (λ j. size_of (still_there j (there_in numbers sizes bits))) is ∙ ap size_of (still i h) ∙ size_of_lem i h (is_there numbers i) refl ∙ ap (λ j. get_or sizes j 0) (sym is))
       ∙ ap (λ k. map (λ i. get_or sizes i 0) (range 0 k)) (sym z.tables.sizes_fit)
       ∙ map_get_or_range sizes 0
 
   bits_final : final_bits (length numbers) (state_of numbers sizes bits) ≡ bits
   unfolding final_bits
   bits_final =
-      same_rows (λ i. bitsOf (still_there i (there_in numbers sizes bits))) (row_of bits) 0 (length numbers)
-      (λ i l u. let h : i < length numbers = omega arith in ap bitsOf (still i h) ∙ bits_of_lem i h (is_there numbers i) refl)
+      same_rows (λ i. bits_of (still_there i (there_in numbers sizes bits))) (row_of bits) 0 (length numbers)
+      (λ i l u. let h : i < length numbers = omega arith in ap bits_of (still i h) ∙ bits_of_lem i h (is_there numbers i) refl)
       ∙ all_rows bits (length numbers) z.tables.bits_fit
 
   final : Final (length numbers) (state_of numbers sizes bits) numbers sizes bits

@@ -46,12 +46,12 @@ fn convert_set(
       sizes = sizes.now;
       rank = rank.now;
     }) bits.now settings.entries_aware number.0 at (record {
-      chunk-of = chunk_of.old;
-      group-of = group_of.old;
-      name-of = name_of.old;
-      size_of_lem = size_of.old;
-      bits_of_lem = bits_of.old;
-      mark-of = mark_of.old;
+      chunk_of = chunk_of.old;
+      group_of = group_of.old;
+      name_of = name_of.old;
+      size_of = size_of.old;
+      bits_of = bits_of.old;
+      mark_of = mark_of.old;
     }) set.now }
     requires set_len_bound { (length set.now ≤ n) × (n ≤ 4096) × (3 * n ≤ length scratch.old) }
     ensures set_taken { SetTaken (record {
@@ -61,19 +61,19 @@ fn convert_set(
       rank = rank.now;
     }) bits.now settings.entries_aware set.now
         (λ tree places. in_turn tree (items_of_set settings.entries_aware settings group name tree places)) number.0 at result (record {
-          chunk-of = chunk_of.old;
-          group-of = group_of.old;
-          name-of = name_of.old;
-          size_of_lem = size_of.old;
-          bits_of_lem = bits_of.old;
-          mark-of = mark_of.old;
+          chunk_of = chunk_of.old;
+          group_of = group_of.old;
+          name_of = name_of.old;
+          size_of = size_of.old;
+          bits_of = bits_of.old;
+          mark_of = mark_of.old;
         }) (record {
-          chunk-of = chunk_of.new;
-          group-of = group_of.new;
-          name-of = name_of.new;
-          size_of_lem = size_of.new;
-          bits_of_lem = bits_of.new;
-          mark-of = mark_of.new;
+          chunk_of = chunk_of.new;
+          group_of = group_of.new;
+          name_of = name_of.new;
+          size_of = size_of.new;
+          bits_of = bits_of.new;
+          mark_of = mark_of.new;
         }) }
     ensures scratch_len_unchanged { length scratch.new ≡ length scratch.old }
 {
@@ -159,12 +159,12 @@ pub fn convert_names(
       next = next.now;
       order = order.now;
     }) bits.now settings group matched.now number.0 at (record {
-      chunk-of = chunk_of.old;
-      group-of = group_of.old;
-      name-of = name_of.old;
-      size_of_lem = size_of.old;
-      bits_of_lem = bits_of.old;
-      mark-of = mark_of.old;
+      chunk_of = chunk_of.old;
+      group_of = group_of.old;
+      name_of = name_of.old;
+      size_of = size_of.old;
+      bits_of = bits_of.old;
+      mark_of = mark_of.old;
     }) }
     requires names_room { NamesRoom n flags.now order.now place.now marks.old followed.old set.old scratch.old
         × Closed flags.now first.now dependency.now next.now closed.old chunk_of.old }
@@ -180,19 +180,19 @@ pub fn convert_names(
       next = next.now;
       order = order.now;
     }) bits.now settings group matched.now number.0 at result (record {
-      chunk-of = chunk_of.old;
-      group-of = group_of.old;
-      name-of = name_of.old;
-      size_of_lem = size_of.old;
-      bits_of_lem = bits_of.old;
-      mark-of = mark_of.old;
+      chunk_of = chunk_of.old;
+      group_of = group_of.old;
+      name_of = name_of.old;
+      size_of = size_of.old;
+      bits_of = bits_of.old;
+      mark_of = mark_of.old;
     }) (record {
-      chunk-of = chunk_of.new;
-      group-of = group_of.new;
-      name-of = name_of.new;
-      size_of_lem = size_of.new;
-      bits_of_lem = bits_of.new;
-      mark-of = mark_of.new;
+      chunk_of = chunk_of.new;
+      group_of = group_of.new;
+      name_of = name_of.new;
+      size_of = size_of.new;
+      bits_of = bits_of.new;
+      mark_of = mark_of.new;
     }) }
     ensures marks_len_unchanged { (length marks.new ≡ length marks.old) × (length set.new ≡ length set.old)
         × (length scratch.new ≡ length scratch.old) × (followed.new ≡ unfollowed)

@@ -35,29 +35,29 @@ fn emit_pieces(
     marks: &mut [u8],
 ) -> usize
     requires pieces_ready { PiecesReady bytes.now offsets.now sizes.now order.now total bits.now (record {
-      chunk-of = chunk_of.old;
-      group-of = group_of.old;
-      name-of = name_of.old;
-      size_of_lem = size_of.old;
-      bits_of_lem = bits_of.old;
-      mark-of = mark_of.old;
+      chunk_of = chunk_of.old;
+      group_of = group_of.old;
+      name_of = name_of.old;
+      size_of = size_of.old;
+      bits_of = bits_of.old;
+      mark_of = mark_of.old;
     }) number.0 at }
     requires lent { Lent order.now similar.old sums.old starts.old piece_sizes.old marks.old }
     ensures { Converted (chunks_of bytes.now offsets.now sizes.now head minimum maximum order.now)
         bits.now number.0 at result (record {
-          chunk-of = chunk_of.old;
-          group-of = group_of.old;
-          name-of = name_of.old;
-          size_of_lem = size_of.old;
-          bits_of_lem = bits_of.old;
-          mark-of = mark_of.old;
+          chunk_of = chunk_of.old;
+          group_of = group_of.old;
+          name_of = name_of.old;
+          size_of = size_of.old;
+          bits_of = bits_of.old;
+          mark_of = mark_of.old;
         }) (record {
-          chunk-of = chunk_of.new;
-          group-of = group_of.new;
-          name-of = name_of.new;
-          size_of_lem = size_of.new;
-          bits_of_lem = bits_of.new;
-          mark-of = mark_of.new;
+          chunk_of = chunk_of.new;
+          group_of = group_of.new;
+          name_of = name_of.new;
+          size_of = size_of.new;
+          bits_of = bits_of.new;
+          mark_of = mark_of.new;
         }) }
 {
     let count = split_oversized(
@@ -114,28 +114,28 @@ pub fn emit_oversized(
     mark_of: &mut [u8],
 ) -> usize
     requires { PiecesReady bytes.now offsets.now sizes.now order.now total bits.now (record {
-      chunk-of = chunk_of.old;
-      group-of = group_of.old;
-      name-of = name_of.old;
-      size_of_lem = size_of.old;
-      bits_of_lem = bits_of.old;
-      mark-of = mark_of.old;
+      chunk_of = chunk_of.old;
+      group_of = group_of.old;
+      name_of = name_of.old;
+      size_of = size_of.old;
+      bits_of = bits_of.old;
+      mark_of = mark_of.old;
     }) number.0 at }
     ensures { Converted (chunks_of bytes.now offsets.now sizes.now head minimum maximum order.now)
         bits.now number.0 at result (record {
-          chunk-of = chunk_of.old;
-          group-of = group_of.old;
-          name-of = name_of.old;
-          size_of_lem = size_of.old;
-          bits_of_lem = bits_of.old;
-          mark-of = mark_of.old;
+          chunk_of = chunk_of.old;
+          group_of = group_of.old;
+          name_of = name_of.old;
+          size_of = size_of.old;
+          bits_of = bits_of.old;
+          mark_of = mark_of.old;
         }) (record {
-          chunk-of = chunk_of.new;
-          group-of = group_of.new;
-          name-of = name_of.new;
-          size_of_lem = size_of.new;
-          bits_of_lem = bits_of.new;
-          mark-of = mark_of.new;
+          chunk_of = chunk_of.new;
+          group_of = group_of.new;
+          name_of = name_of.new;
+          size_of = size_of.new;
+          bits_of = bits_of.new;
+          mark_of = mark_of.new;
         }) }
 {
     let n = order.len();

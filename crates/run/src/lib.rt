@@ -51,12 +51,12 @@ fn make_chunks(
       walking = record { flags = flags.now; first = first.now; dependency = dependency.now; next = next.now; order = order.now };
     })
         on_entry at (record {
-          chunk-of = chunk_of.old;
-          group-of = group_of.old;
-          name-of = name_of.old;
-          size_of_lem = size_of.old;
-          bits_of_lem = bits_of.old;
-          mark-of = mark_of.old;
+          chunk_of = chunk_of.old;
+          group_of = group_of.old;
+          name_of = name_of.old;
+          size_of = size_of.old;
+          bits_of = bits_of.old;
+          mark_of = mark_of.old;
         }) scratch.old }
     ensures { ChunksMade (record {
       settings = settings;
@@ -74,20 +74,20 @@ fn make_chunks(
       };
     })
         on_entry at result (record {
-          chunk-of = chunk_of.old;
-          group-of = group_of.old;
-          name-of = name_of.old;
-          size_of_lem = size_of.old;
-          bits_of_lem = bits_of.old;
-          mark-of = mark_of.old;
+          chunk_of = chunk_of.old;
+          group_of = group_of.old;
+          name_of = name_of.old;
+          size_of = size_of.old;
+          bits_of = bits_of.old;
+          mark_of = mark_of.old;
         })
         (record {
-          chunk-of = chunk_of.new;
-          group-of = group_of.new;
-          name-of = name_of.new;
-          size_of_lem = size_of.new;
-          bits_of_lem = bits_of.new;
-          mark-of = mark_of.new;
+          chunk_of = chunk_of.new;
+          group_of = group_of.new;
+          name_of = name_of.new;
+          size_of = size_of.new;
+          bits_of = bits_of.new;
+          mark_of = mark_of.new;
         }) }
 {
     let mut turns = [0u32; 64];
@@ -134,14 +134,14 @@ fn finish(
     first_of: &mut [u32],
     scratch: &mut [u32],
 )
-    requires { Finishing order.now chunk_of.now on_entry n at made (record { next-of = next_of.old; first-of = first_of.old }) }
+    requires { Finishing order.now chunk_of.now on_entry n at made (record { next_of = next_of.old; first_of = first_of.old }) }
     ensures { Finished order.now chunk_of.now on_entry n at made
         (record {
-          next-of = next_of.old;
-          first-of = first_of.old;
+          next_of = next_of.old;
+          first_of = first_of.old;
         }) (record {
-          next-of = next_of.new;
-          first-of = first_of.new;
+          next_of = next_of.new;
+          first_of = first_of.new;
         }) scratch.old scratch.new }
 {
     let end = at + made;
@@ -192,14 +192,14 @@ pub fn run(
       walking = record { flags = flags.now; first = first.now; dependency = dependency.now; next = next.now; order = by_order.now };
     })
         on_entry at (record {
-          modules = record { chunk-of = chunk_of.old; next-of = next_of.old };
+          modules = record { chunk_of = chunk_of.old; next_of = next_of.old };
           records = record {
-            first-of = first_of.old;
-            group-of = group_of.old;
-            name-of = name_of.old;
-            size_of_lem = size_of.old;
-            bits_of_lem = bits_of.old;
-            mark-of = mark_of.old;
+            first_of = first_of.old;
+            group_of = group_of.old;
+            name_of = name_of.old;
+            size_of = size_of.old;
+            bits_of = bits_of.old;
+            mark_of = mark_of.old;
           };
           scratch = scratch.old;
         }) }
@@ -219,26 +219,26 @@ pub fn run(
       };
     })
         on_entry at result (record {
-          modules = record { chunk-of = chunk_of.old; next-of = next_of.old };
+          modules = record { chunk_of = chunk_of.old; next_of = next_of.old };
           records = record {
-            first-of = first_of.old;
-            group-of = group_of.old;
-            name-of = name_of.old;
-            size_of_lem = size_of.old;
-            bits_of_lem = bits_of.old;
-            mark-of = mark_of.old;
+            first_of = first_of.old;
+            group_of = group_of.old;
+            name_of = name_of.old;
+            size_of = size_of.old;
+            bits_of = bits_of.old;
+            mark_of = mark_of.old;
           };
           scratch = scratch.old;
         })
         (record {
-          modules = record { chunk-of = chunk_of.new; next-of = next_of.new };
+          modules = record { chunk_of = chunk_of.new; next_of = next_of.new };
           records = record {
-            first-of = first_of.new;
-            group-of = group_of.new;
-            name-of = name_of.new;
-            size_of_lem = size_of.new;
-            bits_of_lem = bits_of.new;
-            mark-of = mark_of.new;
+            first_of = first_of.new;
+            group_of = group_of.new;
+            name_of = name_of.new;
+            size_of = size_of.new;
+            bits_of = bits_of.new;
+            mark_of = mark_of.new;
           };
           scratch = scratch.new;
         }) }

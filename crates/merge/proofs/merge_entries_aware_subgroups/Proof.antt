@@ -3,7 +3,7 @@ use mathlib.Core.Bool.{true, false}
 use mathlib.Core.Path.{◌≡◌, sym, ◌∙◌}
 use native.Mathlib.Omega.{arith}
 use borrow.Author.Rules.{rules}
-use lib.Ieee.{isNan}
+use lib.Ieee.{is_nan}
 use Rattle.whole.specs.Total.{total_exceeds}
 use Rattle.bitset.specs.Entries.{any_beyond}
 use Rattle.merge.specs.Call.{Given, Areas}
@@ -47,8 +47,8 @@ not-2 e = sym e.before.lengths_differ.ensures ∙ e.if2.false
 not-6 : (e : tie.Else3) → total_exceeds (given (start-3 e)).sizes ≡ false
 not-6 e = sym e.before.total-exceeds.ensures ∙ e.if3.false
 
-not-8 : (e : tie.Else4) → isNan (given (start-4 e)).threshold ≡ false
-not-8 e = sym e.before.is-nan.ensures ∙ e.if4.false
+not-8 : (e : tie.Else4) → is_nan (given (start-4 e)).threshold ≡ false
+not-8 e = sym e.before.is_nan.ensures ∙ e.if4.false
 
 not-9 : (e : tie.Else5) → any_beyond (given (start-5 e)).entries (given (start-5 e)).bits (given (start-5 e)).k ≡ false
 not-9 e = sym e.before.any-bit-from.ensures ∙ e.if5.false
@@ -92,7 +92,7 @@ returns-4 c =
     let e3 = c.before.before in
     let e2 = e3.before.before in
     let e1 = e2.before.before in
-    refuses_8 (given (start-3 e3)) (areas (start-3 e3)) (not-1 e1) (not-2 e2) (not-6 e3) (sym c.before.is-nan.ensures ∙ c.if4.true)
+    refuses_8 (given (start-3 e3)) (areas (start-3 e3)) (not-1 e1) (not-2 e2) (not-6 e3) (sym c.before.is_nan.ensures ∙ c.if4.true)
 
 any-bit-from-requires : tie.Need-any-bit-from-requires
 any-bit-from-requires c κs =
