@@ -19,6 +19,20 @@ name_at-requires c =
     let a = c.args in
     name_in_table a.count a.bytes.now a.offsets.now c.requires c.loop-k.k c.loop-k-test.true
 
+pub returns-then-not-is_utf8 : goal.returns-then-not-is_utf8
+returns-then-not-is_utf8 c =
+    let a = c.args in
+    let s = c.loop-k in
+    let bad = ap utf8 (sym c.name_at.ensures) ∙ sym c.is_utf8.ensures ∙ c.if-not-is_utf8.true in
+    sym (one_name a.count a.bytes.now a.offsets.now _ s.k c.loop-k-test.true bad) ∙ s.invariant.1
+
+pub loop-k-preserved : goal.loop-k-preserved
+loop-k-preserved c =
+    let a = c.args in
+    let s = c.loop-k in
+    let good = ap utf8 (sym c.name_at.ensures) ∙ sym c.is_utf8.ensures ∙ c.if-not-is_utf8.false in
+    (omega arith, sym (one_name a.count a.bytes.now a.offsets.now _ s.k c.loop-k-test.true good) ∙ s.invariant.1)
+
 pub returns : goal.returns
 returns c =
     let a = c.args in

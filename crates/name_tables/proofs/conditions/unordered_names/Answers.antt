@@ -24,6 +24,20 @@ name_at-requires c =
     let a = c.args in
     name_in_table a.count a.bytes.now a.offsets.now c.requires (c.loop-k.k + 1) (omega arith)
 
+pub returns-then-not-id_before : goal.returns-then-not-id_before
+returns-then-not-id_before c =
+    let a = c.args in
+    let s = c.loop-k in
+    let bad = ap₂ before (sym c.name_at-name.ensures) (sym c.name_at.ensures) ∙ sym c.id_before.ensures ∙ c.if-not-id_before.true in
+    sym (one_pair a.count a.bytes.now a.offsets.now _ s.k c.loop-k-test.true bad) ∙ s.invariant.1
+
+pub loop-k-preserved : goal.loop-k-preserved
+loop-k-preserved c =
+    let a = c.args in
+    let s = c.loop-k in
+    let good = ap₂ before (sym c.name_at-name.ensures) (sym c.name_at.ensures) ∙ sym c.id_before.ensures ∙ c.if-not-id_before.false in
+    (omega arith, sym (one_pair a.count a.bytes.now a.offsets.now _ s.k c.loop-k-test.true good) ∙ s.invariant.1)
+
 pub returns : goal.returns
 returns c =
     let a = c.args in

@@ -1,0 +1,7 @@
+-- `emitting::records::store_fields` meets its contract: the four stores are the contract's.
+use mathlib.Core.Path.{refl}
+use borrow.Author.Rules.{rules}
+use Rattle.emitting.proofs.records.store_fields.Goals as goal
+
+pub returns : goal.returns
+returns c = record { group_of_after = refl; name_of_after = refl; size_of_after = refl; mark_of_after = refl; }
