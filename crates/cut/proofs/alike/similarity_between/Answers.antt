@@ -6,17 +6,14 @@ use Rattle.similarity.specs.Similarity.{similarity}
 use Rattle.cut.proofs.alike.similarity_between.Goals as goal
 
 pub id_at-lhs-requires : goal.id_at-lhs-requires
-id_at-lhs-requires c =
-    let p = c.requires in in_table id_limit _ _ _ p.good p.has_before
+id_at-lhs-requires c = in_table id_limit _ _ _ c.requires.good c.requires.has_before
 
 pub id_at-rhs-requires : goal.id_at-rhs-requires
-id_at-rhs-requires c =
-    let p = c.requires in in_table id_limit _ _ _ p.good p.has_after
+id_at-rhs-requires c = in_table id_limit _ _ _ c.requires.good c.requires.has_after
 
 pub similarity_within-requires : goal.similarity_within-requires
 similarity_within-requires c =
-    let p = c.requires in
-    rw c.id_at-lhs.ensures (id_length id_limit _ _ _ p.good p.has_before)
+    rw c.id_at-lhs.ensures (id_length id_limit _ _ _ c.requires.good c.requires.has_before)
 
 pub returns : goal.returns
 returns c = c.similarity_within.ensures ∙ ap₂ similarity c.id_at-lhs.ensures c.id_at-rhs.ensures

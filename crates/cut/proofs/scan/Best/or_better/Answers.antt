@@ -17,7 +17,17 @@ kept : (maximum : Float) (best later : Candidate) (b : Bool) → beats maximum l
 unfolding better
 kept maximum best later b e = ap (λ (t : Bool). Found (cond t later best)) e
 
+pub returns-then-is_better : goal.returns-then-is_better
+returns-then-is_better c =
+    let a = c.args in
+    sym (ap (λ (b : Best). replaced a.maximum b a.candidate) c.in-Found.is ∙ kept a.maximum c.in-Found.best a.candidate true (sym c.is_better.ensures ∙ c.if-is_better.true))
+
 pub returns-in-Nothing : goal.returns-in-Nothing
 returns-in-Nothing c =
     let a = c.args in
     sym (ap (λ (b : Best). replaced a.maximum b a.candidate) c.in-Nothing.is)
+
+pub returns-else-is_better : goal.returns-else-is_better
+returns-else-is_better c =
+    let a = c.args in
+    sym (ap (λ (b : Best). replaced a.maximum b a.candidate) c.in-Found.is ∙ kept a.maximum c.in-Found.best a.candidate false (sym c.is_better.ensures ∙ c.if-is_better.false))
