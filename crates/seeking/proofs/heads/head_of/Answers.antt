@@ -11,8 +11,7 @@ loop-i-init c =
 pub ahead-best-requires : goal.ahead-best-requires
 ahead-best-requires c =
     let l = c.loop-i in
-    let e = c.block_end-end.ensures in
-    (c.requires.0, omega (arith, l.invariant.0, l.invariant.1.below, e.1), omega (arith, e.1))
+    (c.requires.0, omega (arith, l.invariant.0, l.invariant.1.below, c.block_end-end.ensures.1), omega (arith, c.block_end-end.ensures.1))
 
 pub loop-i-preserved : goal.loop-i-preserved
 loop-i-preserved c =
@@ -23,7 +22,6 @@ loop-i-preserved c =
 pub returns : goal.returns
 returns c =
     let l = c.loop-i in
-    let e = c.block_end-end.ensures in
     looked_all c.args.threshold c.args.sizes.now c.args.block l.i l.best l.invariant.1
-    (omega (arith, l.invariant.0, e.1)) (omega (arith, l.invariant.0, e.2))
-    (λ h. omega (arith, e.3 (omega arith)))
+    (omega (arith, l.invariant.0, c.block_end-end.ensures.1)) (omega (arith, l.invariant.0, c.block_end-end.ensures.2))
+    (λ h. omega (arith, c.block_end-end.ensures.3 (omega arith)))

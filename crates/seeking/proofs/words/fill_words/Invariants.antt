@@ -9,7 +9,7 @@ use Rattle.lists.proofs.Front.{Copied, none_placed, one_placed, all_copied}
 use Rattle.seeking.proofs.words.fill_words.Given as goal
 
 abbrev pub invariant-loop-i : goal.invariant-loop-i
-invariant-loop-i l = Copied (map (λ l.i. get_or l.bits (4 * l.i) 0) (range 0 (length l.initial.words))) l.initial.words l.words l.i
+invariant-loop-i l = Copied (map (λ i. get_or l.bits (4 * i) 0) (range 0 (length l.initial.words))) l.initial.words l.words l.i
 
 abbrev pub decreases-loop-i : goal.decreases-loop-i
 decreases-loop-i l = length l.initial.words - l.i

@@ -1,0 +1,23 @@
+-- `exec_order::listed::list_modules` meets its contract. The loop's invariant: the listed modules below m are kept.
+use Prim.Native.Nat.{ℕ, ◌-◌, ◌≤◌}
+use mathlib.Core.Bool.{Bool}
+use mathlib.Core.List.{List}
+use mathlib.Core.Logic.{⊎_elim}
+use mathlib.Core.Path.{◌≡◌, sym, ◌∙◌, subst, subst₂}
+use native.Mathlib.Omega.{arith}
+use borrow.Author.Rules.{rules}
+use lib.ListN.{length, get_or, set}
+use Rattle.lists.specs.Keep.{keep}
+use Rattle.lists.specs.Range.{range}
+use Rattle.lists.proofs.KeepLoop.{keep_range_in, keep_range_out}
+use Rattle.flags.specs.Flags.{listed}
+use Rattle.exec_order.specs.Listed.{listed_in, Kept}
+use Rattle.exec_order.proofs.Keeping.{none_kept, kept_in, kept_out}
+use Rattle.exec_order.proofs.listed.list_modules.Given as goal
+
+abbrev pub invariant-loop-m : goal.invariant-loop-m
+invariant-loop-m l =
+    (l.m ≤ length l.flags) × (l.count ≤ l.m) × Kept (keep (λ k. listed (get_or l.flags k 0)) (range 0 l.m)) l.count l.initial.list l.list
+
+abbrev pub decreases-loop-m : goal.decreases-loop-m
+decreases-loop-m l = length l.flags - l.m

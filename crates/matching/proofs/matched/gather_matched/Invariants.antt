@@ -1,0 +1,14 @@
+-- `matching::matched::gather_matched` meets its contract: one place more a turn, if its module takes part.
+use Rattle.std.proofs.Common.{◌≡◌, ◌-◌, ◌<◌, ◌≤◌, length, get_or, sym, ◌∙◌, ⊎_elim, arith}
+use Rattle.matching.specs.Matched.{Matching, Readable, takes_module}
+use Rattle.matching.proofs.Gathering.{keys_below, keys_none, keys_in, keys_out, keys_all}
+use Rattle.matching.proofs.Writing.{Writing, none_written, one_written, none_stored, has_room}
+use Rattle.matching.proofs.matched.gather_matched.Given as goal
+
+abbrev pub invariant-loop-i : goal.invariant-loop-i
+invariant-loop-i l =
+    let g : Matching = record { filter = l.filter; answers = l.answers; tags = l.tags; sizes = l.sizes; shares = l.shares } in
+    (l.i ≤ length l.order) × Writing (keys_below g l.order l.i) l.i l.count l.initial.keys l.keys
+
+abbrev pub decreases-loop-i : goal.decreases-loop-i
+decreases-loop-i l = length l.order - l.i
