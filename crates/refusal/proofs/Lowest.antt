@@ -32,7 +32,6 @@ rises n b (test m c ∷ ts) e =
     more (le_refl n) (from_le (le_of_lt (ltb-true n m s.0)) (rises m c ts s.1))
 
 at_least : (k m : ℕ) {ts : List Test} → From k ts → Applies m ts → k ≤ m
-at_least k m none x3 = elim x3 [ ]
 at_least k m (more p r) (here e t) = subst (λ (x : ℕ). k ≤ x) e p
 at_least k m (more p r) (there a) = at_least k m r a
 at_least k m none x3 = elim x3 [ ]
