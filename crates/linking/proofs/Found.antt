@@ -55,7 +55,7 @@ unfolding chunk_number
 none_number base p [] h = refl
 none_number base p (c ∷ chunks) h = rw (h c (Memᴰ.head refl)) (none_number (suc base) p chunks (λ d m. h d (Memᴰ.tail m)))
 
-pub found_number : (base : ℕ) {p j : ℕ} {chunks : List (List ℕ)} → Found p chunks j → chunk_number base p chunks ≡ base + j + 1
+pub found_number : {p : ℕ} (base : ℕ) {j : ℕ} {chunks : List (List ℕ)} → Found p chunks j → chunk_number base p chunks ≡ base + j + 1
 unfolding chunk_number
 found_number base (here e h) = rw e (omega arith)
 found_number base (later {j = j} e f) = let shift : suc base + j + 1 ≡ base + suc j + 1 = omega arith in rw e (found_number (suc base) f ∙ shift)

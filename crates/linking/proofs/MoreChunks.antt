@@ -87,10 +87,12 @@ module _ (b : Given) where
 
   pub matched_of_lem : {es : List Emission} {chunks : List Chunk} → AllMatch b es chunks → (e : Emission) → Memᴰ e es
       → (c : Chunk) × Memᴰ c chunks × Matches b e c
+  matched_of_lem none e x4 = elim x4 [ ]
   matched_of_lem (more {c = c} h rest) e (Memᴰ.head q) = (c, Memᴰ.head refl, rw q h)
   matched_of_lem (more h rest) e (Memᴰ.tail i) = let s = matched_of_lem rest e i in (s.0, Memᴰ.tail s.1, s.2)
 
   pub matched_four : {es : List Emission} {chunks : List Chunk} → AllMatch b es chunks
       → (c : Chunk) → Memᴰ c chunks → length c.bits.words ≡ 4
+  matched_four none c x4 = elim x4 [ ]
   matched_four (more h rest) c (Memᴰ.head q) = rw q h.four_words
   matched_four (more h rest) c (Memᴰ.tail i) = matched_four rest c i

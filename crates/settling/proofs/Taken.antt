@@ -30,7 +30,7 @@ taken_mem (c ∷ chunks) p e = go (elem p c.places) refl e (taken_mem chunks p)
     go true q f later = (c, Memᴰ.head refl, elem_mem p c.places q)
     go false q f later = let s = later f in (s.0, Memᴰ.tail s.1, s.2)
 
-pub mem_taken : {chunks : List Chunk} (c : Chunk) (p : ℕ) → Memᴰ c chunks → Memᴰ p c.places → taken chunks p ≡ true
+pub mem_taken : (c : Chunk) {chunks : List Chunk} (p : ℕ) → Memᴰ c chunks → Memᴰ p c.places → taken chunks p ≡ true
 unfolding taken
 mem_taken c p (Memᴰ.head {xs = chunks} e) m = rw (sym e, mem_elem p m)
 mem_taken c p (Memᴰ.tail {x = d} {xs = chunks} i) m = rw (mem_taken c p i m) (or-true (elem p d.places))
