@@ -24,7 +24,7 @@ LEMMAS = {
     "by-id": ("by_id_lem", ("orders/proofs/Orders", "ranks/proofs/InIdOrder", "ranks/proofs/SameIds", "idbytes/proofs/Sharing")),
     "modules-in": ("modules_in_lem", ("entries_aware/proofs/AsItems", "entries_aware/proofs/Runs")),
 }
-# Names that would meet another in their own file.
+# Names that would meet another in their own file; and fields that port.py turned where they are declared, but not in each clause.
 SPELLED = {
     "bit-and": "bit_and_lem",
     "bit-or": "bit_or_lem",
@@ -34,6 +34,10 @@ SPELLED = {
     "whole_above": "whole_above_lem",
     "whole_below": "whole_below_lem",
 }
+FIELDS = {f"{n}-of": f"{n}_of" for n in ("chunk", "group", "name", "size", "bits", "mark", "first", "next")}
+FIELDS |= {"by-order": "by_order", "is-nan": "is_nan", "isNan": "is_nan", "sizeOf": "size_of", "bitsOf": "bits_of"}
+# Names of the toolchain that a lemma here has too: they stay in a file that imports them.
+IMPORTED = re.compile(r"(?m)^use (?:borrow\.Author\.Tests|mathlib\.Core\.List)\.\{[^}]*\b(not-true|not-false|foldl-append)\b")
 
 
 def lemma_files():
@@ -68,6 +72,8 @@ def table():
     for n in list(new):
         if "-" in n and kinds[n] == {"lemma"} and n not in SPELLED and any("-" not in o for o in olds[new[n]]):
             new[n] += "_lem"
+    for n in FIELDS:
+        new.setdefault(n, FIELDS[n])
     return {n: w for n, w in new.items() if n != w}
 
 
@@ -114,6 +120,10 @@ def main(argv):
         with open(path, encoding="utf-8") as f:
             text = f.read()
         here = {n: w for n, (w, files) in LEMMAS.items() if any(path == f"crates/{f}.antt" for f in files)}
+        if not path.startswith("crates/merge/proofs/"):
+            here |= FIELDS
+        if IMPORTED.search(text):
+            here |= {n: n for n in ("not-true", "not-false", "foldl-append")}
         if "--clashes" in argv:
             found = words_of(text, kind)
             for w in sorted(found & set(names)):

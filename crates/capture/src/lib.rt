@@ -152,10 +152,10 @@ pub fn add_module_and_dependencies_to_group_recursively(
       dependency = dependency.now;
       next = next.now;
     }) result (record {
-      marks = marks.entry.now;
+      marks = marks.old;
       scratch = scratch.old;
     }) (record {
-      marks = marks.exit.now;
+      marks = marks.new;
       scratch = scratch.new;
     }) }
 {

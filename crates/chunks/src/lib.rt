@@ -79,10 +79,10 @@ pub fn split(
         options = options;
       };
       variant = record {
-        flags = flags.entry.now;
+        flags = flags.now;
         g = g;
         groups = record {
-          given = given.entry.now;
+          given = given.now;
           min_size = min_size.now;
           max_size = max_size.now;
           min_module_size = min_module_size.now;

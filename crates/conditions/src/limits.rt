@@ -33,7 +33,7 @@ fn nan_among_groups(
       threshold = threshold.now;
     }) g }
     ensures { result ≡ any_below (λ i. nan_group (group_at (record {
-      given = given.entry.now;
+      given = given.now;
       min_size = min_size.now;
       max_size = max_size.now;
       min_module_size = min_module_size.now;
@@ -91,7 +91,7 @@ pub fn bad_limit(
       threshold = threshold.now;
     }) g }
     ensures { (b : Given) → HandsOptions b global g (record {
-      given = given.entry.now;
+      given = given.now;
       min_size = min_size.now;
       max_size = max_size.now;
       min_module_size = min_module_size.now;

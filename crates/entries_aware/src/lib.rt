@@ -53,7 +53,7 @@ fn convert_divided(
       mark_of = mark_of.old;
     }) set.now settings.threshold kind_bits.now divided.now members.old }
     ensures { SetTurned (record {
-      bytes = bytes.entry.now;
+      bytes = bytes.now;
       offsets = offsets.now;
       sizes = sizes.now;
       rank = rank.now;
@@ -155,7 +155,7 @@ fn convert_few(
     }) set.now }
     requires set_len_bound { (length set.now ≤ 1024) × (length set.now ≤ n) × (n ≤ 4096) × (3 * n ≤ length scratch.old) }
     ensures set_turned { SetTurned (record {
-      bytes = bytes.entry.now;
+      bytes = bytes.now;
       offsets = offsets.now;
       sizes = sizes.now;
       rank = rank.now;
@@ -251,7 +251,7 @@ fn convert_many(
     }) set.now }
     requires set_len_bound { (length set.now ≤ n) × (n ≤ 4096) × (3 * n ≤ length scratch.old) }
     ensures set_turned { SetTurned (record {
-      bytes = bytes.entry.now;
+      bytes = bytes.now;
       offsets = offsets.now;
       sizes = sizes.now;
       rank = rank.now;
@@ -348,7 +348,7 @@ pub fn convert_subgroups(
     }) set.now }
     requires set_len_bound { (length set.now ≤ n) × (n ≤ 4096) × (3 * n ≤ length scratch.old) }
     ensures set_turned { SetTurned (record {
-      bytes = bytes.entry.now;
+      bytes = bytes.now;
       offsets = offsets.now;
       sizes = sizes.now;
       rank = rank.now;

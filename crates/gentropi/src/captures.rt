@@ -27,10 +27,10 @@ pub extern "C" fn gentropi_capture(
       dependency = dependency.now;
       next = next.now;
     }) result (record {
-      marks = marks.entry.now;
+      marks = marks.old;
       scratch = scratch.old;
     }) (record {
-      marks = marks.exit.now;
+      marks = marks.new;
       scratch = scratch.new;
     }) }
 {

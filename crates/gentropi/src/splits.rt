@@ -69,7 +69,7 @@ pub extern "C" fn gentropi_chunks(
         options = options_by given min_size max_size min_module_size max_module_size min_share_count;
       };
       variant = record {
-        flags = flags.entry.now;
+        flags = flags.now;
         g = g;
         groups = record {
           given = group_given.now;

@@ -61,19 +61,19 @@ fn convert_group(
         × (length order.now ≤ length matched.old)
         × Closed flags.now first.now dependency.now next.now closed.old chunk_of.old }
     ensures group_turned { GroupTurned (record {
-      bytes = bytes.entry.now;
+      bytes = bytes.now;
       offsets = offsets.now;
       sizes = sizes.now;
       rank = rank.now;
     })
         (record {
-          flags = flags.entry.now;
+          flags = flags.now;
           first = first.now;
           dependency = dependency.now;
           next = next.now;
           order = order.now;
         }) bits.now
-        settings group (record { answers = answers.entry.now; tags = tags.now; shares = shares.now }) number.0 at result
+        settings group (record { answers = answers.now; tags = tags.now; shares = shares.now }) number.0 at result
         (record {
           chunk_of = chunk_of.old;
           group_of = group_of.old;
@@ -170,20 +170,20 @@ pub fn convert_groups_to_chunks(
         }) }
     requires n_in_bounds { 3 * n ≤ length scratch.old }
     ensures groups_turned { GroupsTurned (record {
-      bytes = bytes.entry.now;
+      bytes = bytes.now;
       offsets = offsets.now;
       sizes = sizes.now;
       rank = rank.now;
     })
         (record {
-          flags = flags.entry.now;
+          flags = flags.now;
           first = first.now;
           dependency = dependency.now;
           next = next.now;
           order = order.now;
         }) bits.now
         settings turns.now (record {
-          answers = answers.entry.now;
+          answers = answers.now;
           tags = tags.now;
           shares = shares.now;
         }) n number.0 at result

@@ -69,7 +69,7 @@ fn emit_over_maximum(
     }) number.0 at }
     requires totalled { Totalled sizes.now members.old total }
     ensures { Converted (in_pieces (record {
-      bytes = bytes.entry.now;
+      bytes = bytes.now;
       offsets = offsets.now;
       sizes = sizes.now;
       rank = rank.now;
@@ -131,7 +131,7 @@ fn emit_item(
     }) number.0 at }
     requires totalled { Totalled sizes.now members.old total }
     ensures { Converted (emitted_within limits.maximum (record {
-      bytes = bytes.entry.now;
+      bytes = bytes.now;
       offsets = offsets.now;
       sizes = sizes.now;
       rank = rank.now;
@@ -223,7 +223,7 @@ pub fn convert_item_to_chunks(
     }) number.0 at }
     requires listed { Listed chunk_of.old list.now members.old }
     ensures converted { Converted (emitted_from (record {
-      bytes = bytes.entry.now;
+      bytes = bytes.now;
       offsets = offsets.now;
       sizes = sizes.now;
       rank = rank.now;

@@ -64,12 +64,12 @@ fn run_laid(
     ensures { RunWritten (record {
       settings = settings;
       g = g;
-      asked = record { answers = answers.entry.now; tags = tags.now; shares = shares.now };
+      asked = record { answers = answers.now; tags = tags.now; shares = shares.now };
       n = n;
-      tables = record { bytes = bytes.entry.now; offsets = offsets.now; sizes = sizes.now; rank = rank.now };
+      tables = record { bytes = bytes.now; offsets = offsets.now; sizes = sizes.now; rank = rank.now };
       bits = bits.now;
       walking = record {
-        flags = flags.entry.now;
+        flags = flags.now;
         first = first.now;
         dependency = dependency.now;
         next = next.now;
@@ -205,12 +205,12 @@ pub fn run_side_by_side(
     ensures { RunWritten (record {
       settings = settings;
       g = g;
-      asked = record { answers = answers.entry.now; tags = tags.now; shares = shares.now };
+      asked = record { answers = answers.now; tags = tags.now; shares = shares.now };
       n = n;
-      tables = record { bytes = bytes.entry.now; offsets = offsets.now; sizes = sizes.now; rank = rank.now };
+      tables = record { bytes = bytes.now; offsets = offsets.now; sizes = sizes.now; rank = rank.now };
       bits = bits.now;
       walking = record {
-        flags = flags.entry.now;
+        flags = flags.now;
         first = first.now;
         dependency = dependency.now;
         next = next.now;

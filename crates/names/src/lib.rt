@@ -55,7 +55,7 @@ fn convert_set(
     }) set.now }
     requires set_len_bound { (length set.now ≤ n) × (n ≤ 4096) × (3 * n ≤ length scratch.old) }
     ensures set_taken { SetTaken (record {
-      bytes = bytes.entry.now;
+      bytes = bytes.now;
       offsets = offsets.now;
       sizes = sizes.now;
       rank = rank.now;
@@ -169,12 +169,12 @@ pub fn convert_names(
     requires names_room { NamesRoom n flags.now order.now place.now marks.old followed.old set.old scratch.old
         × Closed flags.now first.now dependency.now next.now closed.old chunk_of.old }
     ensures names_turned { NamesTurned (record {
-      bytes = bytes.entry.now;
+      bytes = bytes.now;
       offsets = offsets.now;
       sizes = sizes.now;
       rank = rank.now;
     }) (record {
-      flags = flags.entry.now;
+      flags = flags.now;
       first = first.now;
       dependency = dependency.now;
       next = next.now;

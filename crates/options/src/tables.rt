@@ -85,7 +85,7 @@ pub fn group_at(
       threshold = threshold.now;
     }) g }
     ensures { result ≡ group_at (record {
-      given = given.entry.now;
+      given = given.now;
       min_size = min_size.now;
       max_size = max_size.now;
       min_module_size = min_module_size.now;

@@ -11,8 +11,8 @@ use walk::walk::{visit, walk};
 // Marks each start and puts it on the list. Answers how many are on it.
 fn mark_starts(flags: &[u8], starts: &[u32], marks: &mut [u8], queue: &mut [u32]) -> usize
     requires { StartsReady flags.now starts.now marks.old queue.old }
-    ensures { foldl (visited flags.now) (record { marks = marks.entry.now; queue = queue.old; tail = 0 })
-        starts.now ≡ record { marks = marks.exit.now; queue = queue.new; tail = result } }
+    ensures { foldl (visited flags.now) (record { marks = marks.old; queue = queue.old; tail = 0 })
+        starts.now ≡ record { marks = marks.new; queue = queue.new; tail = result } }
 {
     let mut tail = 0;
     let mut i = 0;
@@ -43,7 +43,7 @@ pub fn capture_all(
 ) -> Found
     requires { AllReady flags.now first.now dependency.now next.now starts.now marks.old queue.old followed.old }
     ensures all_found { AllFound flags.now first.now dependency.now next.now
-        starts.now result.started (record { marks = marks.exit.now; queue = queue.new; tail = result.found }) }
+        starts.now result.started (record { marks = marks.new; queue = queue.new; tail = result.found }) }
     ensures followed_after { followed.new ≡ unfollowed }
 {
     let started = mark_starts(flags, starts, marks, queue);

@@ -102,7 +102,7 @@ pub fn run_tested(
       next = next.now;
       options = options;
       groups = record {
-        given = given.entry.now;
+        given = given.now;
         min_size = min_size.now;
         max_size = max_size.now;
         min_module_size = min_module_size.now;

@@ -46,7 +46,7 @@ pub fn content_number(
     }) }
     ensures { (b : Given) → HandsContent b n g e k d flags.now sizes.now bits.now
         first.now dependency.now next.now answers.now options (record {
-          given = given.entry.now;
+          given = given.now;
           min_size = min_size.now;
           max_size = max_size.now;
           min_module_size = min_module_size.now;

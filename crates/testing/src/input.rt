@@ -60,10 +60,10 @@ pub fn test_input(
       next = next.now;
       options = options;
     }) (record {
-      flags = flags.entry.now;
+      flags = flags.now;
       g = g;
       groups = record {
-        given = given.entry.now;
+        given = given.now;
         min_size = min_size.now;
         max_size = max_size.now;
         min_module_size = min_module_size.now;

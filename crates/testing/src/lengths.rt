@@ -13,7 +13,7 @@ pub fn module_lengths(
     bits: &[u64],
 ) -> ModuleLengths
     ensures { result ≡ record {
-      flags = length flags.entry.now;
+      flags = length flags.now;
       sizes = length sizes.now;
       orders = length orders.now;
       shares = length shares.now;
@@ -39,7 +39,7 @@ pub fn record_lengths(
     next: &[u32],
 ) -> RecordLengths
     ensures { result ≡ record {
-      offsets = length offsets.entry.now;
+      offsets = length offsets.now;
       first = length first.now;
       dependency = length dependency.now;
       next = length next.now;
@@ -66,7 +66,7 @@ pub fn group_lengths(
     threshold: &[f64],
 ) -> GroupLengths
     ensures { result ≡ record {
-      given = length given.entry.now;
+      given = length given.now;
       min_size = length min_size.now;
       max_size = length max_size.now;
       min_module_size = length min_module_size.now;

@@ -54,7 +54,7 @@ pub fn test_order(
     ensures { (b : Given) → Hands b flags.now orders.now bytes.now offsets.now
         → HandsContent b n g e k d flags.now sizes.now bits.now
         first.now dependency.now next.now answers.now options (record {
-          given = given.entry.now;
+          given = given.now;
           min_size = min_size.now;
           max_size = max_size.now;
           min_module_size = min_module_size.now;

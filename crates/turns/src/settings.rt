@@ -55,7 +55,7 @@ pub fn all_settings(
       threshold = threshold.now;
     }) g) × (g ≤ 64) }
     ensures { AreSettings result g (λ i. settings_under global (group_at (record {
-      given = given.entry.now;
+      given = given.now;
       min_size = min_size.now;
       max_size = max_size.now;
       min_module_size = min_module_size.now;

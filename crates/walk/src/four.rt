@@ -35,10 +35,10 @@ fn visit_two(
     a: usize,
     b: usize,
 ) -> usize
-    requires { RecordsReady flags.now dependency.now (record { marks = marks.now; queue = queue.old; tail = tail }) (a ∷ b ∷ []) }
-    ensures* { λ r. ⌜ foldl (visited flags.now) (record { marks = marks.entry.now; queue = queue.old; tail = tail })
+    requires { RecordsReady flags.now dependency.now (record { marks = marks.old; queue = queue.old; tail = tail }) (a ∷ b ∷ []) }
+    ensures { foldl (visited flags.now) (record { marks = marks.old; queue = queue.old; tail = tail })
         (map (λ r. get_or dependency.now r 0) (a ∷ b ∷ []))
-        ≡ record { marks = marks.exit.now; queue = queue.new; tail = r } ⌝ }
+        ≡ record { marks = marks.new; queue = queue.new; tail = result } }
 {
     let found = visit(flags, marks, queue, tail, ModuleIdx(dependency[a]));
     visit(flags, marks, queue, found, ModuleIdx(dependency[b]))
@@ -58,11 +58,11 @@ fn follow_two(
     b: usize,
 ) -> Passed
     requires { FollowAllReady flags.now dependency.now next.now (length flags.now) (length next.now - 1)
-        (record { marks = marks.now; queue = queue.old; tail = tail }) gone (5 * (length next.now - 1)) (a ∷ b ∷ []) }
+        (record { marks = marks.old; queue = queue.old; tail = tail }) gone (5 * (length next.now - 1)) (a ∷ b ∷ []) }
     ensures visited { Visited flags.now (length flags.now)
         (named_from_all dependency.now next.now (length next.now - 1) (a ∷ b ∷ []))
-        (record { marks = marks.entry.now; queue = queue.old; tail = tail })
-        (record { marks = marks.exit.now; queue = queue.new; tail = result.found }) }
+        (record { marks = marks.old; queue = queue.old; tail = tail })
+        (record { marks = marks.new; queue = queue.new; tail = result.found }) }
     ensures gone_value { result.gone ≡ gone
         + length (named_from_all dependency.now next.now (length next.now - 1) (a ∷ b ∷ [])) }
 {
@@ -86,11 +86,11 @@ fn follow_four(
     mut d: usize,
 ) -> Passed
     requires { FollowAllReady flags.now dependency.now next.now (length flags.now) (length next.now - 1)
-        (record { marks = marks.now; queue = queue.old; tail = tail }) gone (length next.now - 1) (a ∷ b ∷ c ∷ d ∷ []) }
+        (record { marks = marks.old; queue = queue.old; tail = tail }) gone (length next.now - 1) (a ∷ b ∷ c ∷ d ∷ []) }
     ensures visited { Visited flags.now (length flags.now)
         (named_from_all dependency.now next.now (length next.now - 1) (a ∷ b ∷ c ∷ d ∷ []))
-        (record { marks = marks.entry.now; queue = queue.old; tail = tail })
-        (record { marks = marks.exit.now; queue = queue.new; tail = result.found }) }
+        (record { marks = marks.old; queue = queue.old; tail = tail })
+        (record { marks = marks.new; queue = queue.new; tail = result.found }) }
     ensures gone_value { result.gone ≡ gone
         + length (named_from_all dependency.now next.now (length next.now - 1) (a ∷ b ∷ c ∷ d ∷ [])) }
 {
@@ -122,11 +122,11 @@ pub fn take_four(
     gone: usize,
 ) -> Passed
     requires { TakeFourReady flags.now first.now dependency.now next.now (length flags.now) (length next.now - 1)
-        (record { marks = marks.now; queue = queue.old; tail = tail }) gone head }
+        (record { marks = marks.old; queue = queue.old; tail = tail }) gone head }
     ensures visited { Visited flags.now (length flags.now)
         (named_by_part first.now dependency.now next.now (length next.now - 1) queue.old head 4)
-        (record { marks = marks.entry.now; queue = queue.old; tail = tail })
-        (record { marks = marks.exit.now; queue = queue.new; tail = result.found }) }
+        (record { marks = marks.old; queue = queue.old; tail = tail })
+        (record { marks = marks.new; queue = queue.new; tail = result.found }) }
     ensures gone_value { result.gone ≡ gone + length (named_by_part first.now dependency.now next.now
         (length next.now - 1) queue.old head 4) }
 {

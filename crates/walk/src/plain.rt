@@ -36,10 +36,10 @@ pub fn follow_plain(
     from: usize,
 ) -> Passed
     requires { FollowPlainReady flags.now dependency.now next.now (length flags.now) (length next.now - 1)
-        (record { marks = marks.now; queue = queue.old; tail = tail }) gone from }
-    ensures from_value { foldl (visited flags.now) (record { marks = marks.entry.now; queue = queue.old; tail = tail })
+        (record { marks = marks.old; queue = queue.old; tail = tail }) gone from }
+    ensures from_value { foldl (visited flags.now) (record { marks = marks.old; queue = queue.old; tail = tail })
         (named_from dependency.now next.now (length next.now - 1) from)
-        ≡ record { marks = marks.exit.now; queue = queue.new; tail = result.found } }
+        ≡ record { marks = marks.new; queue = queue.new; tail = result.found } }
     ensures gone_value { result.gone ≡ gone + length (named_from dependency.now next.now (length next.now - 1) from) }
 {
     let mut found = tail;
@@ -72,10 +72,10 @@ pub fn walk_plain(
     tail: usize,
 ) -> Part
     requires { PlainReady flags.now first.now dependency.now next.now (length flags.now) (length next.now - 1)
-        (record { marks = marks.now; queue = queue.old; tail = tail }) }
+        (record { marks = marks.old; queue = queue.old; tail = tail }) }
     ensures { Walking flags.now first.now dependency.now next.now (length flags.now)
-        (length next.now - 1) (record { marks = marks.entry.now; queue = queue.old; tail = tail }) result.head
-        (record { marks = marks.exit.now; queue = queue.new; tail = result.found }) }
+        (length next.now - 1) (record { marks = marks.old; queue = queue.old; tail = tail }) result.head
+        (record { marks = marks.new; queue = queue.new; tail = result.found }) }
 {
     let mut found = tail;
     let mut gone = 0;

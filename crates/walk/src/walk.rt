@@ -19,9 +19,9 @@ pub fn visit(
     tail: usize,
     named: ModuleIdx,
 ) -> usize
-    requires { VisitReady flags.now (record { marks = marks.now; queue = queue.old; tail = tail }) named.0 }
-    ensures { visited flags.now (record { marks = marks.entry.now; queue = queue.old; tail = tail }) named.0
-        ≡ record { marks = marks.exit.now; queue = queue.new; tail = result } }
+    requires { VisitReady flags.now (record { marks = marks.old; queue = queue.old; tail = tail }) named.0 }
+    ensures { visited flags.now (record { marks = marks.old; queue = queue.old; tail = tail }) named.0
+        ≡ record { marks = marks.new; queue = queue.new; tail = result } }
 {
     let at = named.0 as usize;
     if marks[at] != 0 {
@@ -49,10 +49,10 @@ fn follow(
     of: ModuleIdx,
 ) -> usize
     requires { FollowReady flags.now first.now dependency.now next.now (length flags.now) (length next.now - 1)
-        (record { marks = marks.now; queue = queue.old; tail = tail }) of.0 followed.old }
-    ensures of_value { foldl (visited flags.now) (record { marks = marks.entry.now; queue = queue.old; tail = tail })
+        (record { marks = marks.old; queue = queue.old; tail = tail }) of.0 followed.old }
+    ensures of_value { foldl (visited flags.now) (record { marks = marks.old; queue = queue.old; tail = tail })
         (dependencies first.now dependency.now next.now (length next.now - 1) of.0)
-        ≡ record { marks = marks.exit.now; queue = queue.new; tail = result } }
+        ≡ record { marks = marks.new; queue = queue.new; tail = result } }
     ensures followed_after { followed.new
         ≡ stored 1 (chain_of first.now next.now (length next.now - 1) of.0) followed.old }
 {
@@ -81,9 +81,9 @@ fn walk_marked(
     tail: usize,
 ) -> usize
     requires { MarkedReady flags.now first.now dependency.now next.now (length flags.now) (length next.now - 1)
-        start (record { marks = marks.now; queue = queue.old; tail = tail }) followed.old }
+        start (record { marks = marks.old; queue = queue.old; tail = tail }) followed.old }
     ensures walked { Walked flags.now first.now dependency.now next.now (length flags.now)
-        (length next.now - 1) marks.entry.now (record { marks = marks.exit.now; queue = queue.new; tail = result }) }
+        (length next.now - 1) marks.old (record { marks = marks.new; queue = queue.new; tail = result }) }
     ensures followed_after { followed.new ≡ unfollowed }
 {
     let mut found = tail;
@@ -113,9 +113,9 @@ pub fn walk(
     tail: usize,
 ) -> usize
     requires { WalkReady flags.now first.now dependency.now next.now (length flags.now) (length next.now - 1)
-        (record { marks = marks.now; queue = queue.old; tail = tail }) followed.old }
+        (record { marks = marks.old; queue = queue.old; tail = tail }) followed.old }
     ensures walked { Walked flags.now first.now dependency.now next.now (length flags.now)
-        (length next.now - 1) marks.entry.now (record { marks = marks.exit.now; queue = queue.new; tail = result }) }
+        (length next.now - 1) marks.old (record { marks = marks.new; queue = queue.new; tail = result }) }
     ensures followed_after { followed.new ≡ unfollowed }
 {
     let part = walk_plain(flags, first, dependency, next, marks, queue, tail);
