@@ -51,3 +51,14 @@ returns c =
       nexts = omega (arith, i.nexts, i.at_in, p.nexts);
       laid = inr (all_same p i (omega (arith, c.loop-m-test.false)));
     }
+
+pub overflow_cast-to_first : goal.overflow_cast-to_first
+overflow_cast-to_first c =
+    let laid = c.lay_chain-laid.ensures in
+    omega (arith, (laid.laying (not-false _ c.if-not-laid.false)).first_in, laid.end_le_room, c.requires.few)
+
+pub loop-m-preserved : goal.loop-m-preserved
+loop-m-preserved c =
+    let laid = c.lay_chain-laid.ensures in
+    all_turns_lem c.requires c.loop-m.invariant c.loop-m-test.true (laid.laying (not-false _ c.if-not-laid.false)) laid.end_le_room _
+    refl
