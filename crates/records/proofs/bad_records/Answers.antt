@@ -19,7 +19,7 @@ pub returns-then-bad_record : goal.returns-then-bad_record
 unfolding bad_records
 returns-then-bad_record c =
     let passed_first : let s = c.args in bad_first s.first.now s.n s.d ≡ false =
-        sym c.bad_first.ensures ∙ c.if-bad_first.false in
+    sym c.bad_first.ensures ∙ c.if-bad_first.false in
     let f = sym c.bad_record.ensures ∙ c.if-bad_record.true in
     rw (passed_first, f)
 
@@ -27,10 +27,10 @@ pub returns-then-all_ascend : goal.returns-then-all_ascend
 unfolding bad_records
 returns-then-all_ascend c =
     let passed_first : let s = c.args in bad_first s.first.now s.n s.d ≡ false =
-        sym c.bad_first.ensures ∙ c.if-bad_first.false in
+    sym c.bad_first.ensures ∙ c.if-bad_first.false in
     let passed-record : let s = c.args in
     bad_record s.dependency.now s.next.now s.n s.d ≡ false =
-        sym c.bad_record.ensures ∙ c.if-bad_record.false in
+    sym c.bad_record.ensures ∙ c.if-bad_record.false in
     let s = c.args in
     let e = passed_first in
     let f = passed-record in
@@ -41,11 +41,10 @@ returns-then-all_ascend c =
 pub any_bad_chain-requires : goal.any_bad_chain-requires
 any_bad_chain-requires c =
     let passed_first : let s = c.args in bad_first s.first.now s.n s.d ≡ false =
-        sym c.bad_first.ensures ∙ c.if-bad_first.false in
+    sym c.bad_first.ensures ∙ c.if-bad_first.false in
     let passed-record : let s = c.args in
     bad_record s.dependency.now s.next.now s.n s.d ≡ false =
-        sym c.bad_record.ensures ∙ c.if-bad_record.false in
-    
+    sym c.bad_record.ensures ∙ c.if-bad_record.false in
     record {
       few = c.requires.few;
       firsts = omega (arith, c.requires.firsts);
@@ -58,8 +57,8 @@ pub returns : goal.returns
 unfolding bad_records
 returns c =
     let passed_first : let s = c.args in bad_first s.first.now s.n s.d ≡ false =
-        sym c.bad_first.ensures ∙ c.if-bad_first.false in
+    sym c.bad_first.ensures ∙ c.if-bad_first.false in
     let passed-record : let s = c.args in
     bad_record s.dependency.now s.next.now s.n s.d ≡ false =
-        sym c.bad_record.ensures ∙ c.if-bad_record.false in
+    sym c.bad_record.ensures ∙ c.if-bad_record.false in
     rw (passed_first, passed-record) c.any_bad_chain.ensures

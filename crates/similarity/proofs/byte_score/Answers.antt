@@ -14,8 +14,10 @@ use Rattle.similarity.proofs.byte_score.Goals as goal
 module _ {a b : ℕ} (p : Fits w8 a) (q : Fits w8 b) where
   bytes : Compared a b
   bytes = compared a b (omega arith) (omega arith)
+
   gap_is : above a b * a + (1 - above a b) * b - (above a b * b + (1 - above a b) * a) ≡ gap a b
   gap_is = by_bit bytes.bit (λ h e. rw e (omega arith)) (λ h e. rw e (omega arith))
+
   gap-and-10 : Compared (gap a b) 10
   gap-and-10 = compared (gap a b) 10 (omega arith) (omega arith)
 

@@ -35,8 +35,7 @@ pub returns-then-total-size : goal.returns-then-total-size
 returns-then-total-size c = passes _ c.loop-i.i _ (omega arith) c.loop-i.invariant.1 (omega arith)
 
 pub loop-i-preserved : goal.loop-i-preserved
-loop-i-preserved c =
-    (
+loop-i-preserved c = (
   omega arith,
   one_more c.args.sizes.now c.loop-i.i _ (omega arith) c.loop-i.invariant.1,
   omega arith,

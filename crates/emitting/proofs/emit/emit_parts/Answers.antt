@@ -46,9 +46,9 @@ bounds-sizes-j c =
 pub bounds-marks-j : goal.bounds-marks-j
 bounds-marks-j c =
     omega (
-  arith,
-  c.requires.parts.same_marks,
-)
+      arith,
+      c.requires.parts.same_marks,
+    )
 
 pub overflow_add-at : goal.overflow_add-at
 overflow_add-at c =
@@ -58,9 +58,12 @@ overflow_add-at c =
 pub emit_chunk-requires : goal.emit_chunk-requires
 emit_chunk-requires c =
     let l = c.loop-j in
-    let a = c.args in record { room = part_room a.head a.members.now a.starts.now a.sizes.now a.marks.now a.bits.now a.number.0 a.at
+    let a = c.args in record {
+      room = part_room a.head a.members.now a.starts.now a.sizes.now a.marks.now a.bits.now a.number.0 a.at
           (areas a.chunk_of.now a.group_of.now a.name_of.now a.size_of.now a.bits_of.now a.mark_of.now) c.requires.parts
-          (areas l.chunk_of l.group_of l.name_of l.size_of l.bits_of l.mark_of) l.end l.j l.invariant c.loop-j-test.true; number_bound = omega (arith, c.requires.starts_bound, c.loop-j-test.true); }
+          (areas l.chunk_of l.group_of l.name_of l.size_of l.bits_of l.mark_of) l.end l.j l.invariant c.loop-j-test.true;
+      number_bound = omega (arith, c.requires.starts_bound, c.loop-j-test.true);
+    }
 
 pub loop-j-preserved : goal.loop-j-preserved
 loop-j-preserved c =

@@ -4,4 +4,4 @@ use borrow.Author.Rules.{rules}
 use Rattle.emitting.proofs.records.store_fields.Goals as goal
 
 pub returns : goal.returns
-returns c = record { group_of_after = refl; name_of_after = refl; size_of_after = refl; mark_of_after = refl; }
+returns c = record { group_of_after = refl; name_of_after = refl; size_of_after = refl; mark_of_after = refl }

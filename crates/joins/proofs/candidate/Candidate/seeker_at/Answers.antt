@@ -6,7 +6,7 @@ use Rattle.joins.specs.declared.candidate.Candidate.{Candidate}
 use Rattle.joins.proofs.candidate.Candidate.seeker_at.Goals as goal
 
 pub size_at-requires : goal.size_at-requires
-size_at-requires c = record { i_in_bounds = c.requires.1; i_bound = c.requires.0 c.args.i c.requires.1; }
+size_at-requires c = record { i_in_bounds = c.requires.1; i_bound = c.requires.0 c.args.i c.requires.1 }
 
 pub returns : goal.returns
 unfolding seeker_at

@@ -1,0 +1,25 @@
+-- `cut::tabled::pick_by_similarity` meets its contract. The loop's invariant: the best is that of the places before i, as the tables have them.
+use Prim.Native.Nat.{◌-◌, ◌≤◌}
+use mathlib.Core.List.{List, foldl, map}
+use mathlib.Core.Path.{◌≡◌, refl, sym, ap, ap₂, ◌∙◌}
+use native.Mathlib.Omega.{arith}
+use borrow.Author.Rules.{rules}
+use lib.ListN.{length}
+use Rattle.lists.specs.Range.{range}
+use Rattle.cut.specs.Scan.{considered, chosen_from}
+use Rattle.cut.specs.declared.candidate.Candidate.{Candidate}
+use Rattle.cut.specs.declared.scan.Best.{Best}
+use Rattle.cut.specs.declared.scan.Best.TheVariants.{Nothing}
+use Rattle.cut.specs.declared.scan.Bounds.{Bounds}
+use Rattle.cut.proofs.Scanning.{scan_cuts, looked_at}
+use Rattle.cut.proofs.FromTables.{candidate_from, places_tabled}
+use Rattle.cut.proofs.tabled.pick_by_similarity.Given as goal
+
+abbrev pub invariant-loop-i : goal.invariant-loop-i
+invariant-loop-i l =
+    (1 ≤ l.i)
+    × (l.i - 1 ≤ length l.similar - 1)
+    × (l.best ≡ foldl (considered l.bounds) Nothing (map (candidate_from l.similar l.sums l.total) (range 1 (l.i - 1))))
+
+abbrev pub decreases-loop-i : goal.decreases-loop-i
+decreases-loop-i l = length l.similar - l.i

@@ -1,0 +1,11 @@
+-- Each way out is one case.
+use borrow.Author.Tests.{lt-ltb, le-ltb}
+use Rattle.seeking.proofs.words.fewer.Goals as goal
+
+pub returns-then-a-b : goal.returns-then-a-b
+returns-then-a-b c =
+    let a = c.args in rw (lt-ltb a.a a.b c.if-a-b.true)
+
+pub returns : goal.returns
+returns c =
+    let a = c.args in rw (le-ltb a.a a.b c.if-a-b.false)

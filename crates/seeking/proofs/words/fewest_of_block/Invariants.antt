@@ -1,0 +1,14 @@
+-- The invariant: the fewest so far is that of the first i words of the block. The measure is the words left.
+use Prim.Native.Nat.{suc, ◌+◌, ◌-◌, ◌≤◌}
+use mathlib.Core.Path.{◌≡◌, refl, ap, ◌∙◌}
+use native.Mathlib.Omega.{arith}
+use lib.ListN.{get_or}
+use Rattle.joins.specs.Candidate.{ones_apart}
+use Rattle.seeking.specs.Listed.{fewer, fewest}
+use Rattle.seeking.proofs.words.fewest_of_block.Given as goal
+
+abbrev pub invariant-loop-i : goal.invariant-loop-i
+invariant-loop-i l = (l.i ≤ 16) × (l.least ≡ fewest l.words l.wanted l.from l.i)
+
+abbrev pub decreases-loop-i : goal.decreases-loop-i
+decreases-loop-i l = 16 - l.i

@@ -1,0 +1,23 @@
+-- The invariant: the fewest of the first j blocks are written, and the answer so far is a block. The measure is the blocks left.
+use Prim.Native.Nat.{ℕ, ◌*◌, ◌-◌, ◌≤◌}
+use mathlib.Core.List.{List, map}
+use mathlib.Core.Path.{refl, sym, ◌∙◌}
+use native.Mathlib.Omega.{arith}
+use lib.ListN.{length}
+use Rattle.lists.specs.Range.{range}
+use Rattle.lists.proofs.Front.{Copied, none_placed, one_written, all_copied}
+use Rattle.lists.proofs.Map.{get_or_map_range}
+use Rattle.seeking.specs.Listed.{fewest, fewest_of_blocks}
+use Rattle.seeking.proofs.Beside.{fewest_small}
+use Rattle.seeking.proofs.words.fill_fewest.Given as goal
+
+-- the fewest of block j
+abbrev ofBlock : List ℕ → ℕ → ℕ → ℕ
+ofBlock words wanted j = fewest words wanted (16 * j) 16
+
+abbrev pub invariant-loop-j : goal.invariant-loop-j
+invariant-loop-j l =
+    Copied (map (ofBlock l.words l.wanted) (range 0 (length l.initial.few))) l.initial.few l.few l.j × (l.first ≤ length l.initial.few - 1)
+
+abbrev pub decreases-loop-j : goal.decreases-loop-j
+decreases-loop-j l = length l.initial.few - l.j

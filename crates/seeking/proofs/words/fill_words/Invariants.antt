@@ -1,0 +1,15 @@
+-- `seeking::words::fill_words` meets its contract: one word more is written a turn, the rest are as they were.
+use Prim.Native.Nat.{◌*◌, ◌-◌}
+use mathlib.Core.List.{map}
+use mathlib.Core.Path.{refl}
+use native.Mathlib.Omega.{arith}
+use lib.ListN.{length, get_or}
+use Rattle.lists.specs.Range.{range}
+use Rattle.lists.proofs.Front.{Copied, none_placed, one_placed, all_copied}
+use Rattle.seeking.proofs.words.fill_words.Given as goal
+
+abbrev pub invariant-loop-i : goal.invariant-loop-i
+invariant-loop-i l = Copied (map (λ l.i. get_or l.bits (4 * l.i) 0) (range 0 (length l.initial.words))) l.initial.words l.words l.i
+
+abbrev pub decreases-loop-i : goal.decreases-loop-i
+decreases-loop-i l = length l.initial.words - l.i
