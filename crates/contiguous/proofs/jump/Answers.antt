@@ -5,21 +5,11 @@ use native.Mathlib.Numerals.{add-one}
 use mir.Val.{bool_byte}
 use Rattle.contiguous.specs.Jumps.{is_jump}
 use borrow.Author.Rules.{rules}
-use Rattle.contiguous.proofs.jump.Statement.{statement}
-use Rattle.contiguous.proofs.jump.Tie as tie
+use Rattle.contiguous.proofs.jump.Goals as goal
 
 as_byte : (b : Bool) → bool_byte b ≡ cond b 1 0
 as_byte true = refl
 as_byte false = refl
 
-add-result : tie.Need-overflow-add-result
-add-result c = search rules
-
-cast-result : tie.Need-overflow-cast-result
-cast-result c = search rules
-
-returns : tie.Need-returns
+pub returns : goal.returns
 returns c = rw add-one (as_byte (is_jump c.args.r c.args.next))
-
-pub jump-spec : {M : Type 1} → statement M
-jump-spec = tie.close (tie.spec add-result cast-result returns)

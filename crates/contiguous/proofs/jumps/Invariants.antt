@@ -1,0 +1,22 @@
+-- `contiguous::jumps` meets its contract. The loop's invariant: how many of the records from 1 to r are followed by another than their neighbour.
+use Prim.Native.Nat.{ℕ, suc, ◌+◌, ◌≤◌, ◌-◌}
+use mathlib.Core.Bool.{Bool, true, false, cond}
+use mathlib.Core.List.{List}
+use mathlib.Core.Path.{◌≡◌, refl, ap, ◌∙◌}
+use native.Mathlib.Nat.{add_comm}
+use native.Mathlib.Numerals.{add-one}
+use native.Mathlib.Omega.{arith}
+use lib.ListN.{length, get_or}
+use Rattle.lists.specs.Below.{count_below}
+use Rattle.contiguous.specs.Jumps.{is_jump, jumps_of}
+use Rattle.contiguous.proofs.jumps.Given as goal
+
+-- whether record k + 1 is
+abbrev jumpAt : List ℕ → ℕ → Bool
+jumpAt next k = is_jump (suc k) (get_or next (suc k) 0)
+
+abbrev pub invariant-loop-r : goal.invariant-loop-r
+invariant-loop-r l = (l.r ≤ l.last) × (l.count ≤ l.r) × (l.count ≡ count_below (jumpAt l.next) l.r)
+
+abbrev pub decreases-loop-r : goal.decreases-loop-r
+decreases-loop-r l = l.last - l.r

@@ -1,0 +1,19 @@
+-- `contiguous::lay_chains` meets its contract. The loop's invariant: the chains of the modules below m are laid below `at`. The measure is the
+-- number of modules that are left.
+use Prim.Native.Nat.{◌-◌}
+use mathlib.Core.Logic.{inl, inr}
+use mathlib.Core.Path.{refl}
+use native.Mathlib.Omega.{arith}
+use mir.Facts.{Fits-32_64}
+use borrow.Author.Rules.{rules}
+use borrow.Author.Tests.{not-false}
+use lib.ListN.{length}
+use Rattle.contiguous.proofs.LaidTables.{LayingAll, all_begins, chain_ready, all_turns_lem, all_same}
+use Rattle.contiguous.proofs.lay_chains.Given as goal
+
+abbrev pub invariant-loop-m : goal.invariant-loop-m
+invariant-loop-m l =
+    LayingAll l.first l.dependency l.next (length l.first) (length l.next - 1) l.room l.initial.to_first l.initial.to_dependency l.initial.to_next l.m l.at l.to_first l.to_dependency l.to_next
+
+abbrev pub decreases-loop-m : goal.decreases-loop-m
+decreases-loop-m l = length l.first - l.m

@@ -1,0 +1,21 @@
+-- `walk::walk::follow` meets its contract. The loop's invariant: what is left to do from record r on is what was to be done from the chain's
+-- first record on. The measure is the number of records left.
+use Prim.Native.Nat.{◌-◌}
+use mathlib.Core.Path.{sym, ◌∙◌}
+use native.Mathlib.Omega.{arith}
+use borrow.Author.Rules.{rules}
+use mir.Facts.{Fits-32_64}
+use lib.ListN.{length}
+use Rattle.records.specs.Chain.{chain_from, chain_of, dependencies}
+use Rattle.records.proofs.ChainMarks.{record_marked}
+use Rattle.records.proofs.Table.{Good, good}
+use Rattle.walk.proofs.Chains.{Following, follow_begins, follow_ends, followed_ends, follow_less, follow_turns, named_in}
+use Rattle.walk.proofs.walk.follow.Given as goal
+
+abbrev pub invariant-loop-followed : goal.invariant-loop-followed
+invariant-loop-followed l =
+    Following l.flags l.dependency l.next (length l.flags) (length l.next - 1) (record { marks = l.initial.marks; queue = l.initial.queue; tail = l.initial.found }) l.initial.followed l.initial.r
+    (record { marks = l.marks; queue = l.queue; tail = l.found }) l.followed l.r
+
+abbrev pub decreases-loop-followed : goal.decreases-loop-followed
+decreases-loop-followed l = length (chain_from l.next (length l.next - 1) l.r)
