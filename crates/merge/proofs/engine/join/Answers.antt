@@ -1,5 +1,4 @@
 -- The two subgroups written are those of the join, and each has a row and a whole size.
-use borrow.Author.Rules.{rules}
 use Rattle.joins.specs.Held.{held}
 use Rattle.merge.proofs.Uniting.{united_fits, vanished_fits, stored}
 use Rattle.merge.proofs.engine.join.Goals as goal

@@ -1,11 +1,9 @@
 -- The two searches find the definition's next join: where one finds nothing there is none, else it is made, the word beside the target is written
 -- again, and the two blocks that the join changes are looked through again.
-use Prim.Native.Nat.{ℕ, ◌-◌}
-use mathlib.Core.List.{List}
+use Prim.Native.Nat.{◌-◌}
 use mathlib.Core.Path.{◌≡◌, sym, ap, ◌∙◌}
 use native.Mathlib.Omega.{arith}
 use borrow.Author.Tests.{not-true, not-false}
-use borrow.Author.Rules.{rules}
 use lib.ListN.{length, take}
 use lib.Seq.{length-take-le}
 use Rattle.joins.specs.Held.{held}
