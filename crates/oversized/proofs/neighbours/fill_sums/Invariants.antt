@@ -1,0 +1,22 @@
+-- `oversized::neighbours::fill_sums` meets its contract. The loop's invariant: the entries below i are filled, and the sum is that of the first i sizes.
+use Prim.Native.Nat.{◌-◌, ◌≤◌, ◌<◌}
+use mathlib.Core.Path.{◌≡◌, ap₂, ◌∙◌}
+use native.Mathlib.Omega.{arith}
+use lib.Ieee.{nan, binary64, add}
+use lib.ListN.{length, take, length-set}
+use Rattle.whole.specs.Double.{sum_f64}
+use Rattle.cut.specs.Order.{sizes_in}
+use Rattle.cut.proofs.InOrder.{length_sizes}
+use Rattle.cut.proofs.Totals.{no_size, size_more}
+use Rattle.oversized.proofs.Filled.{Filled, one_filled}
+use Rattle.oversized.proofs.neighbours.fill_sums.Given as goal
+
+abbrev pub invariant-loop-i : goal.invariant-loop-i
+invariant-loop-i l =
+    (l.i ≤ length l.order)
+    × (length l.sums ≡ length l.order)
+    × Filled nan (λ k. sum_f64 (take k (sizes_in l.sizes l.order))) 0 l.sums l.i
+    × (l.sum ≡ sum_f64 (take l.i (sizes_in l.sizes l.order)))
+
+abbrev pub decreases-loop-i : goal.decreases-loop-i
+decreases-loop-i l = length l.order - l.i
