@@ -4,56 +4,164 @@ use Rattle.matching.specs.Matched.{Matching, Readable, takes_module}
 use Rattle.matching.proofs.Gathering.{keys_below, keys_none, keys_in, keys_out, keys_all}
 use Rattle.matching.proofs.Writing.{Writing, none_written, one_written, none_stored, has_room}
 use Rattle.matching.proofs.matched.gather_matched.Goals as goal
-
--- the module of the turn can be asked for
-abbrev Asking : Type 0
-Asking = tie.After-shared-slice-known6 invariant-loop decreases-loop
-
-abbrev start : Asking → tie.Start invariant-loop decreases-loop
-start c = c.before.before.before.before.before.before.before.before.before
-
-readable : (c : Asking) → Readable (given (start c)) (get_or (start c).args.order.now c.before.before.loop.i 0)
-readable c = (start c).requires.readable c.before.before.loop.i (omega arith)
-
--- no more are written than were passed
-room : (c : Asking) →
-    let l = c.before.before.loop in
-    l.count < length l.keys
-room c = has_room c.before.before.loop.invariant.1 (omega (arith, (start c).requires.room))
+use Rattle.matching.proofs.matched.gather_matched.Goals.{else-takes_part, then-takes_part}
 
 pub loop-i-init : goal.loop-i-init
 loop-i-init c =
     (omega arith, rw (keys_none _ c.args.order.now) (none_written c.args.keys.now))
 
+pub overflow_cast-m : goal.overflow_cast-m
+overflow_cast-m c =
+    let readable : Readable ((record {
+      filter = c.args.filter;
+      answers = c.args.answers.now;
+      tags = c.args.tags.now;
+      sizes = c.args.sizes.now;
+      shares = c.args.shares.now;
+    })) (get_or c.args.order.now c.loop-i.i 0) =
+        c.requires.readable c.loop-i.i (omega arith) in
+    omega (arith, (readable).answered)
+
+pub offset_bounds-answers-m : goal.offset_bounds-answers-m
+offset_bounds-answers-m c =
+    let readable : Readable ((record {
+      filter = c.args.filter;
+      answers = c.args.answers.now;
+      tags = c.args.tags.now;
+      sizes = c.args.sizes.now;
+      shares = c.args.shares.now;
+    })) (get_or c.args.order.now c.loop-i.i 0) =
+        c.requires.readable c.loop-i.i (omega arith) in
+    omega (arith, (readable).answered)
+
+pub bounds-answers-m : goal.bounds-answers-m
+bounds-answers-m c =
+    let readable : Readable ((record {
+      filter = c.args.filter;
+      answers = c.args.answers.now;
+      tags = c.args.tags.now;
+      sizes = c.args.sizes.now;
+      shares = c.args.shares.now;
+    })) (get_or c.args.order.now c.loop-i.i 0) =
+        c.requires.readable c.loop-i.i (omega arith) in
+    (readable).answered
+
+pub key_of-requires : goal.key_of-requires
+key_of-requires c =
+    let readable : Readable ((record {
+      filter = c.args.filter;
+      answers = c.args.answers.now;
+      tags = c.args.tags.now;
+      sizes = c.args.sizes.now;
+      shares = c.args.shares.now;
+    })) (get_or c.args.order.now c.loop-i.i 0) =
+        c.requires.readable c.loop-i.i (omega arith) in
+    ((readable).name, omega (arith, c.requires.few))
+
 pub offset_bounds-keys-count : goal.offset_bounds-keys-count
-offset_bounds-keys-count c = omega (arith, room c)
+offset_bounds-keys-count c =
+    let room : let l = c.loop-i in
+    l.count < length l.keys =
+        has_room c.loop-i.invariant.1 (omega (arith, c.requires.room)) in
+    omega (arith, room)
 
 pub bounds-keys-count : goal.bounds-keys-count
-bounds-keys-count c = room c
+bounds-keys-count c =
+    let room : let l = c.loop-i in
+    l.count < length l.keys =
+        has_room c.loop-i.invariant.1 (omega (arith, c.requires.room)) in
+    room
 
 pub offset_bounds-tags-m : goal.offset_bounds-tags-m
-offset_bounds-tags-m c = omega (arith, (readable c).tagged)
+offset_bounds-tags-m c =
+    let readable : Readable ((record {
+      filter = c.args.filter;
+      answers = c.args.answers.now;
+      tags = c.args.tags.now;
+      sizes = c.args.sizes.now;
+      shares = c.args.shares.now;
+    })) (get_or c.args.order.now c.loop-i.i 0) =
+        c.requires.readable c.loop-i.i (omega arith) in
+    omega (arith, (readable).tagged)
 
 pub bounds-tags-m : goal.bounds-tags-m
-bounds-tags-m c = (readable c).tagged
+bounds-tags-m c =
+    let readable : Readable ((record {
+      filter = c.args.filter;
+      answers = c.args.answers.now;
+      tags = c.args.tags.now;
+      sizes = c.args.sizes.now;
+      shares = c.args.shares.now;
+    })) (get_or c.args.order.now c.loop-i.i 0) =
+        c.requires.readable c.loop-i.i (omega arith) in
+    (readable).tagged
 
 pub offset_bounds-sizes-m : goal.offset_bounds-sizes-m
-offset_bounds-sizes-m c = omega (arith, (readable c).sized)
+offset_bounds-sizes-m c =
+    let readable : Readable ((record {
+      filter = c.args.filter;
+      answers = c.args.answers.now;
+      tags = c.args.tags.now;
+      sizes = c.args.sizes.now;
+      shares = c.args.shares.now;
+    })) (get_or c.args.order.now c.loop-i.i 0) =
+        c.requires.readable c.loop-i.i (omega arith) in
+    omega (arith, (readable).sized)
 
 pub bounds-sizes-m : goal.bounds-sizes-m
-bounds-sizes-m c = (readable c).sized
+bounds-sizes-m c =
+    let readable : Readable ((record {
+      filter = c.args.filter;
+      answers = c.args.answers.now;
+      tags = c.args.tags.now;
+      sizes = c.args.sizes.now;
+      shares = c.args.shares.now;
+    })) (get_or c.args.order.now c.loop-i.i 0) =
+        c.requires.readable c.loop-i.i (omega arith) in
+    (readable).sized
 
 pub offset_bounds-shares-m : goal.offset_bounds-shares-m
-offset_bounds-shares-m c = omega (arith, (readable c).shared)
+offset_bounds-shares-m c =
+    let readable : Readable ((record {
+      filter = c.args.filter;
+      answers = c.args.answers.now;
+      tags = c.args.tags.now;
+      sizes = c.args.sizes.now;
+      shares = c.args.shares.now;
+    })) (get_or c.args.order.now c.loop-i.i 0) =
+        c.requires.readable c.loop-i.i (omega arith) in
+    omega (arith, (readable).shared)
 
 pub bounds-shares-m : goal.bounds-shares-m
-bounds-shares-m c = (readable c).shared
+bounds-shares-m c =
+    let readable : Readable ((record {
+      filter = c.args.filter;
+      answers = c.args.answers.now;
+      tags = c.args.tags.now;
+      sizes = c.args.sizes.now;
+      shares = c.args.shares.now;
+    })) (get_or c.args.order.now c.loop-i.i 0) =
+        c.requires.readable c.loop-i.i (omega arith) in
+    (readable).shared
 
 pub takes_part-requires : goal.takes_part-requires
-takes_part-requires c = (readable c).whole
+takes_part-requires c =
+    let readable : Readable ((record {
+      filter = c.args.filter;
+      answers = c.args.answers.now;
+      tags = c.args.tags.now;
+      sizes = c.args.sizes.now;
+      shares = c.args.shares.now;
+    })) (get_or c.args.order.now c.loop-i.i 0) =
+        c.requires.readable c.loop-i.i (omega arith) in
+    (readable).whole
 
 pub overflow_add-count : goal.overflow_add-count
-overflow_add-count c = omega (arith, room ((c)))
+overflow_add-count c =
+    let room : let l = c.loop-i in
+    l.count < length l.keys =
+        has_room c.loop-i.invariant.1 (omega (arith, c.requires.room)) in
+    omega (arith, room)
 
 pub shape_of-keys : goal.shape_of-keys
 shape_of-keys c = c.loop-i.invariant.1.same_length

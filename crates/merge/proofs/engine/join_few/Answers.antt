@@ -1,0 +1,16 @@
+-- The tables are long enough for at most 1,024 subgroups.
+use mathlib.Core.Path.{sym, ap, ◌∙◌}
+use native.Mathlib.Omega.{arith}
+use borrow.Author.Rules.{rules}
+use lib.Seq.{length-take-le}
+use Rattle.lists.specs.Range.{range}
+use Rattle.merge.proofs.engine.join_few.Goals as goal
+
+pub slice_bounds-join_all-end : goal.slice_bounds-join_all-end
+slice_bounds-join_all-end c = sym (length-take-le _ _ (omega (arith, c.requires.2)))
+
+pub slice_bounds-join_all-end-2 : goal.slice_bounds-join_all-end-2
+slice_bounds-join_all-end-2 c = sym (length-take-le _ _ (omega (arith, c.requires.2)))
+
+pub slice_bounds-join_all-end-3 : goal.slice_bounds-join_all-end-3
+slice_bounds-join_all-end-3 c = sym (length-take-le _ _ (omega (arith, c.requires.2)))
