@@ -7,11 +7,15 @@ use std::{
 };
 
 /// A source of the library that is newer than the archive, if there is one: the list of crates, or a
-/// file of theirs. Edits that must fail are no part of the library.
+/// file of theirs. Edits that must fail are no part of the library, and neither is what the toolchain
+/// made of a crate, in its folder `out`.
 pub fn newer_source(archive: &Path, root: &Path) -> io::Result<Option<PathBuf>> {
     let built = fs::metadata(archive)?.modified()?;
     let mut left = vec![root.join("crates.txt"), root.join("crates")];
     while let Some(path) = left.pop() {
+        if is_made(&path, root) {
+            continue;
+        }
         if path.is_dir() {
             for entry in fs::read_dir(&path)? {
                 left.push(entry?.path());
@@ -21,6 +25,11 @@ pub fn newer_source(archive: &Path, root: &Path) -> io::Result<Option<PathBuf>> 
         }
     }
     Ok(None)
+}
+
+fn is_made(path: &Path, root: &Path) -> bool {
+    let of_crate = path.parent().and_then(Path::parent) == Some(root.join("crates").as_path());
+    of_crate && path.ends_with("out")
 }
 
 fn is_newer(file: &Path, built: SystemTime) -> io::Result<bool> {

@@ -24,7 +24,7 @@ fn main() -> ExitCode {
     if !archive.is_file() {
         return fail(&[
             &format!("the proved library is missing: {}", archive.display()),
-            "run `rt staticlib gentropi` at the root of the repository, which proves and builds it",
+            "run `./staticlib` at the root of the repository, which proves and builds it",
             &format!("or name the folder that has it in {VARIABLE}, by its full path"),
         ]);
     }
@@ -61,7 +61,7 @@ fn warn_of_age(archive: &Path, root: &Path) {
     if let Ok(Some(source)) = archive_age::newer_source(archive, root) {
         let source = source.strip_prefix(root).unwrap_or(&source);
         println!("cargo::warning=libgentropi.a is older than {}", source.display());
-        println!("cargo::warning=run `rt staticlib gentropi` at the root of the repository");
+        println!("cargo::warning=run `./staticlib` at the root of the repository");
     }
 }
 

@@ -47,7 +47,7 @@
 //!
 //! # Linking
 //!
-//! The build needs `libgentropi.a`, which `rt staticlib gentropi`, run at the root of the
+//! The build needs `libgentropi.a`, which `./staticlib`, run at the root of the
 //! repository, proves and writes to `target/staticlib`. If it is older than a source of the library,
 //! the build warns and a test fails. The variable `GENTROPI_LIB_DIR` names another folder for it;
 //! whether an archive there belongs to these sources can't be told by its age, and isn't tested.

@@ -22,7 +22,7 @@ fn the_linked_archive_is_not_older_than_its_sources() {
     let root = Path::new(env!("CARGO_MANIFEST_DIR")).join("../..");
     let newer = newer_source(Path::new(archive), &root).expect("the sources can be looked at");
     let newer = newer.map(|source| source.display().to_string());
-    assert_eq!(newer, None, "{archive} is older than this source: run `rt staticlib gentropi`");
+    assert_eq!(newer, None, "{archive} is older than this source: run `./staticlib`");
 }
 
 /// A repository in small, whose files are some hours old: the archive three, the sources four.
@@ -32,7 +32,9 @@ impl Small {
     fn new(name: &str) -> Self {
         let small = Self(Path::new(env!("CARGO_TARGET_TMPDIR")).join(name));
         let _ = fs::remove_dir_all(&small.0);
-        fs::create_dir_all(small.0.join("crates/a/must-fail")).expect("a folder");
+        for folder in ["must-fail", "out", "proofs/out"] {
+            fs::create_dir_all(small.0.join("crates/a").join(folder)).expect("a folder");
+        }
         small.file("libgentropi.a", 3);
         for source in ["crates.txt", "crates/a/source", "crates/a/must-fail/wrong.edit"] {
             small.file(source, 4);
@@ -73,4 +75,13 @@ fn a_newer_edit_is_no_source() {
     let small = Small::new("newer-edit");
     small.file("crates/a/must-fail/wrong.edit", 2);
     assert_eq!(small.newer(), None);
+}
+
+#[test]
+fn what_was_made_newer_is_no_source() {
+    let small = Small::new("newer-out");
+    small.file("crates/a/out/made", 2);
+    assert_eq!(small.newer(), None);
+    small.file("crates/a/proofs/out/source", 2);
+    assert_eq!(small.newer(), Some("crates/a/proofs/out/source".into()));
 }

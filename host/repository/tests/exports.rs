@@ -37,7 +37,7 @@ fn without_typedefs(text: &str) -> String {
 fn every_export_is_found() {
     let marked: usize = files("crates/gentropi/src", ".rt")
         .iter()
-        .map(|source| read(source).matches("#[no_mangle]").count())
+        .map(|source| read(source).matches("#[unsafe(no_mangle)]").count())
         .sum();
     assert_eq!(exported().len(), marked);
     assert!(marked >= 7, "{marked} functions are exported");

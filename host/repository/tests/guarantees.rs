@@ -7,7 +7,7 @@ use repository::{read, root};
 const PROVED: [&str; 3] =
     ["The same tree gives the same chunks", "Sizes can't drift", "What is refused"];
 
-/// A theorem and the file that is said to have it.
+/// A theorem, or a function for its contract, and the file that is said to have it.
 #[derive(Debug, PartialEq, Eq)]
 struct Cited<'a> {
     theorem: &'a str,
@@ -19,6 +19,13 @@ fn cited(text: &str) -> Vec<Cited<'_>> {
     let words: Vec<&str> = text.split('`').collect();
     let named = words.windows(3).filter(|three| three[1].trim() == "in");
     named.map(|three| Cited { theorem: three[0], file: three[2] }).collect()
+}
+
+/// Whether a source has a function of that name with a contract that says what it does.
+fn promises(source: &str, function: &str) -> bool {
+    let (_, from) = source.split_once(&format!("fn {function}(")).unwrap_or_default();
+    let (contract, _) = from.split_once("\n{\n").unwrap_or_default();
+    contract.contains("\n    ensures ")
 }
 
 /// Whether a text states a theorem of that name.
@@ -50,7 +57,8 @@ fn every_named_theorem_is_there() {
     for Cited { theorem, file } in named {
         assert!(file.starts_with("crates/"), "{theorem} in {file}");
         assert!(root().join(file).is_file(), "there is no {file}, where {theorem} should be");
-        assert!(states(&read(file), theorem), "{file} states no {theorem}");
+        let stands = if file.ends_with(".rt") { promises } else { states };
+        assert!(stands(&read(file), theorem), "{file} states no {theorem}");
     }
 }
 
@@ -73,7 +81,11 @@ fn a_theorem_that_is_gone_would_be_noticed() {
     let text = read(file);
     assert!(states(&text, "renumbered"));
     assert!(!states(&text, "renumbere"));
-    assert!(!states(&text.replace("renumbered :", "renumbered-once :"), "renumbered"));
+    assert!(!states(&text.replace("renumbered :", "renumbered_once :"), "renumbered"));
+    let source = read("crates/gentropi/src/splits.rt");
+    assert!(promises(&source, "gentropi_chunks"));
+    assert!(!promises(&source, "gentropi_chunk"));
+    assert!(!promises(&source.replace("ensures", "requires"), "gentropi_chunks"));
     assert_eq!(
         cited("so (`a` in `b`, `c` in `d`)."),
         [Cited { theorem: "a", file: "b" }, Cited { theorem: "c", file: "d" }]

@@ -11,10 +11,10 @@ use repository::{ScratchFolder, command, read};
 /// Takes two seconds to prove, and can't be run twice at once.
 const RT: &str = "#!/bin/sh
 mkdir running || { echo 'rt: gentropi NOT PROVED'; exit 1; }
-echo \"rt $*\" >>log
+echo \"rt $*\" >>../../log
 sleep 2
-mkdir -p target/staticlib
-: >target/staticlib/libgentropi.a
+mkdir -p out
+: >out/libgentropi.a
 rmdir running
 ";
 
@@ -30,9 +30,9 @@ chmod +x \"$root/host/target/release/chunklist\"
 rmdir \"$root/running\"
 ";
 
-const COMMANDS: [&str; 13] = [
-    "cat", "chmod", "dirname", "find", "grep", "mkdir", "readlink", "rm", "rmdir", "sh", "sleep",
-    "tee", "touch",
+const COMMANDS: [&str; 15] = [
+    "cat", "chmod", "cp", "dirname", "find", "grep", "mkdir", "mv", "readlink", "rm", "rmdir",
+    "sh", "sleep", "tee", "touch",
 ];
 
 /// A repository in small, with `flock` where the system has it.
@@ -47,8 +47,10 @@ fn with_flock() -> ScratchFolder {
 /// A repository in small.
 fn without_flock() -> ScratchFolder {
     let folder = ScratchFolder::new("chunklist");
-    folder.write_script("chunklist", &read("chunklist"));
-    for source in ["crates.txt", "crates/a/source", "host/Cargo.toml"] {
+    for script in ["chunklist", "staticlib"] {
+        folder.write_script(script, &read(script));
+    }
+    for source in ["crates.txt", "crates/gentropi/source", "host/Cargo.toml"] {
         folder.write(source, "");
     }
     for package in ["text", "reading", "gentropi", "chunklist"] {
@@ -82,7 +84,7 @@ fn two_calls(folder: &ScratchFolder) {
         assert!(*succeeded && answers == "answered\n", "{answers}{messages}");
         assert!(!messages.contains("NOT PROVED"), "{messages}");
     }
-    assert_eq!(folder.read("log"), "rt staticlib gentropi\ncargo build\n");
+    assert_eq!(folder.read("log"), "rt lib\ncargo build\n");
     let waiting = calls.iter().filter(|(_, messages, _)| messages == WAITING).count();
     assert_eq!(waiting, 1, "{calls:?}");
 }
@@ -110,7 +112,7 @@ fn what_is_built_is_not_built_again() {
 
 /// A library that isn't proved is told by both, one after the other.
 fn both_fail(folder: &ScratchFolder) {
-    folder.write_script("bin/rt", "#!/bin/sh\necho rt >>log\nsleep 1\nexit 1\n");
+    folder.write_script("bin/rt", "#!/bin/sh\necho rt >>../../log\nsleep 1\nexit 1\n");
     for (answers, messages, succeeded) in [started(folder), started(folder)].map(ended) {
         assert!(!succeeded && answers.is_empty(), "{answers}");
         assert!(messages.contains("the library was not proved"), "{messages}");
@@ -141,7 +143,19 @@ fn a_changed_source_is_built_again() {
     let folder = with_flock();
     two_calls(&folder);
     fs::remove_file(folder.path().join("log")).expect("the log is there");
-    folder.write("crates/a/source", "changed");
+    folder.write("crates/gentropi/source", "changed");
+    two_calls(&folder);
+}
+
+#[test]
+fn what_rt_made_is_no_source() {
+    let folder = with_flock();
+    two_calls(&folder);
+    folder.write("crates/gentropi/out/made", "");
+    let (_, messages, _) = ended(started(&folder));
+    assert_eq!(messages, "");
+    fs::remove_file(folder.path().join("log")).expect("the log is there");
+    folder.write("crates/gentropi/proofs/out/source", "a module may have that name");
     two_calls(&folder);
 }
 

@@ -1,8 +1,6 @@
 -- `lists::copy::copy_bytes` meets its contract: one element more a turn.
-use Prim.Native.Nat.{◌-◌}
 use native.Mathlib.Omega.{arith}
-use lib.ListN.{length}
-use Rattle.lists.proofs.Front.{Copied, none_copied, one_copied, all_copied}
+use Rattle.lists.proofs.Front.{none_copied, one_copied, all_copied}
 use Rattle.lists.proofs.copy.copy_bytes.Goals as goal
 
 pub loop-i-init : goal.loop-i-init

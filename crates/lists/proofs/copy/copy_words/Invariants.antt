@@ -1,8 +1,7 @@
 -- `lists::copy::copy_words` meets its contract: one element more a turn.
 use Prim.Native.Nat.{◌-◌}
-use native.Mathlib.Omega.{arith}
 use lib.ListN.{length}
-use Rattle.lists.proofs.Front.{Copied, none_copied, one_copied, all_copied}
+use Rattle.lists.proofs.Front.{Copied}
 use Rattle.lists.proofs.copy.copy_words.Given as goal
 
 abbrev pub invariant-loop-i : goal.invariant-loop-i

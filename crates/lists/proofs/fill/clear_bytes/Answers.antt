@@ -1,9 +1,8 @@
 -- `lists::fill::clear_bytes` meets its contract: one byte more is zero a turn.
-use Prim.Native.Nat.{◌-◌}
 use mathlib.Core.Path.{sym}
 use native.Mathlib.Omega.{arith}
-use lib.ListN.{length, replicate, length-replicate, get_or-replicate}
-use Rattle.lists.proofs.Front.{Copied, none_copied, one_written, all_copied}
+use lib.ListN.{length, length-replicate, get_or-replicate}
+use Rattle.lists.proofs.Front.{none_copied, one_written, all_copied}
 use Rattle.lists.proofs.fill.clear_bytes.Goals as goal
 
 pub loop-i-init : goal.loop-i-init

@@ -1,9 +1,7 @@
 -- `lists::fill::clear_bytes` meets its contract: one byte more is zero a turn.
 use Prim.Native.Nat.{◌-◌}
-use mathlib.Core.Path.{sym}
-use native.Mathlib.Omega.{arith}
-use lib.ListN.{length, replicate, length-replicate, get_or-replicate}
-use Rattle.lists.proofs.Front.{Copied, none_copied, one_written, all_copied}
+use lib.ListN.{length, replicate}
+use Rattle.lists.proofs.Front.{Copied}
 use Rattle.lists.proofs.fill.clear_bytes.Given as goal
 
 abbrev pub invariant-loop-i : goal.invariant-loop-i

@@ -1,12 +1,10 @@
 -- `lists::fill::fill_range` meets its contract: one number more a turn.
-use Prim.Native.Nat.{◌-◌}
 use mathlib.Core.Path.{sym, ◌∙◌}
 use native.Mathlib.Nat.{zero-add}
 use native.Mathlib.Omega.{arith}
 use lib.ListN.{length}
-use Rattle.lists.specs.Range.{range}
 use Rattle.lists.proofs.Range.{length_range, get_or_range}
-use Rattle.lists.proofs.Front.{Copied, none_copied, one_written, all_copied}
+use Rattle.lists.proofs.Front.{none_copied, one_written, all_copied}
 use Rattle.lists.proofs.fill.fill_range.Goals as goal
 
 pub loop-i-init : goal.loop-i-init

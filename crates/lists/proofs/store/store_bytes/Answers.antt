@@ -1,10 +1,8 @@
 -- `lists::store::store_bytes` meets its contract. The loop's invariant: the byte is stored at the first i places.
-use Prim.Native.Nat.{◌≤◌, ◌-◌}
-use mathlib.Core.Path.{◌≡◌, refl}
+use mathlib.Core.Path.{refl}
 use native.Mathlib.Omega.{arith}
 use mir.Facts.{Fits-32_64}
-use lib.ListN.{length, take, length-set}
-use Rattle.lists.specs.Stored.{stored}
+use lib.ListN.{length-set}
 use Rattle.lists.proofs.Stored.{stored_none, stored_more, stored_all}
 use Rattle.lists.proofs.store.store_bytes.Goals as goal
 

@@ -4,7 +4,7 @@ use Rattle.matching.specs.Matched.{Matching, Readable, takes_module}
 use Rattle.matching.proofs.Gathering.{keys_below, keys_none, keys_in, keys_out, keys_all}
 use Rattle.matching.proofs.Writing.{Writing, none_written, one_written, none_stored, has_room}
 use Rattle.matching.proofs.matched.gather_matched.Goals as goal
-use Rattle.matching.proofs.matched.gather_matched.Goals.{else-takes_part, then-takes_part}
+use Rattle.matching.proofs.matched.gather_matched.Goals.{then-takes_part, else-takes_part}
 
 pub loop-i-init : goal.loop-i-init
 loop-i-init c =
@@ -177,3 +177,24 @@ returns c =
       sizes = c.args.sizes.now;
       shares = c.args.shares.now;
     })) c.args.order.now l.i e) at l.invariant.1.holds
+
+pub loop-i-preserved : goal.loop-i-preserved
+unfolding takes_module
+loop-i-preserved c =
+    let g : Matching = record {
+      filter = c.args.filter;
+      answers = c.args.answers.now;
+      tags = c.args.tags.now;
+      sizes = c.args.sizes.now;
+      shares = c.args.shares.now;
+    } in
+    let asked : c.takes_part.result ≡ takes_module g (get_or c.args.order.now c.loop-i.i 0) = c.takes_part.ensures in
+    let l = c.loop-i in
+    let o = c.args.order.now in
+    let k = c.key_of in
+    let r : l.i < length c.args.keys.now = omega (arith, c.requires.room) in
+    let q = sym asked in (
+      omega arith,
+      elim c.if-takes_part.branch [ then-takes_part w ↦ rw w.count-is (one_written l.invariant.1 k.result (keys_in g o l.i k.result k.ensures (q ∙ w.if-takes_part.true)) r)
+      | else-takes_part w ↦ rw w.count-is (none_stored l.invariant.1 k.result (keys_out g o l.i (q ∙ w.if-takes_part.false))) ],
+    )
