@@ -1,8 +1,6 @@
 -- The first entries of the areas are the tables, copied; the merge in place is done there.
 use mathlib.Core.Path.{sym, ◌∙◌}
-use Rattle.merge.specs.Call.{Areas}
 use Rattle.merge.proofs.Areas.{numbers_part, sizes_part, bits_part, sizes_part₂, bits_part₂, mergeable, merged_in}
-use borrow.Author.Rules.{rules}
 use Rattle.merge.proofs.merge_into.Goals as goal
 
 pub slice_bounds-copy_numbers-end-2 : goal.slice_bounds-copy_numbers-end-2

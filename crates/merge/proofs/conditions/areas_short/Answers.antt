@@ -1,5 +1,4 @@
 -- Each way out is one case of the condition.
-use borrow.Author.Rules.{rules}
 use borrow.Author.Tests.{lt-ltb, le-ltb}
 use Rattle.merge.proofs.conditions.areas_short.Goals as goal
 

@@ -1,5 +1,4 @@
 -- Each way out is one case of the condition.
-use borrow.Author.Rules.{rules}
 use borrow.Author.Tests.{eq-eqb, ne_eqb}
 use Rattle.merge.proofs.conditions.lengths_differ.Goals as goal
 

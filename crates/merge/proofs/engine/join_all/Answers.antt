@@ -3,16 +3,13 @@
 use Prim.Native.Nat.{suc, ◌-◌, ◌≤◌}
 use mathlib.Core.Path.{◌≡◌, refl, sym, ap, ◌∙◌, subst}
 use native.Mathlib.Omega.{arith}
-use borrow.Author.Tests.{not-true, not-false}
 use lib.ListN.{length, take, drop}
 use lib.Seq.{take-length, length-take-le, length_front}
 use Rattle.lists.specs.Range.{range}
 use Rattle.lists.proofs.Range.{length_range}
-use Rattle.seeking.specs.Listed.{FirstWords}
-use Rattle.seeking.specs.Seekers.{Heads}
 use Rattle.seeking.proofs.Beside.{first_words_all, first_words_front, first_words_longer}
 use Rattle.merge.specs.Merge.{merge_steps}
-use Rattle.merge.specs.Engine.{listed, state_of, Sound, Turn}
+use Rattle.merge.specs.Engine.{listed, state_of, Turn}
 use Rattle.merge.proofs.Listing.{listed_all}
 use Rattle.merge.proofs.Turning.{sizes_fit_all, turn_more, turn_last, list_less}
 use Rattle.merge.proofs.engine.join_all.Goals as goal

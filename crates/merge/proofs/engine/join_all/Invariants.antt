@@ -1,20 +1,12 @@
 -- The invariant: from the present state the turns left give what all turns give from the start, the list has as many numbers as turns are left, the
 -- first words stand beside it, and the heads stand for their blocks. The measure is the turns left.
-use Prim.Native.Nat.{suc, ◌-◌, ◌≤◌}
-use mathlib.Core.Path.{◌≡◌, refl, sym, ap, ◌∙◌, subst}
-use native.Mathlib.Omega.{arith}
-use borrow.Author.Tests.{not-true, not-false}
-use lib.ListN.{length, take, drop}
-use lib.Seq.{take-length, length-take-le, length_front}
-use Rattle.lists.specs.Range.{range}
-use Rattle.lists.proofs.Range.{length_range}
+use Prim.Native.Nat.{◌≤◌}
+use mathlib.Core.Path.{◌≡◌}
+use lib.ListN.{length, take}
 use Rattle.seeking.specs.Listed.{FirstWords}
 use Rattle.seeking.specs.Seekers.{Heads}
-use Rattle.seeking.proofs.Beside.{first_words_all, first_words_front, first_words_longer}
 use Rattle.merge.specs.Merge.{merge_steps}
-use Rattle.merge.specs.Engine.{listed, state_of, Sound, Turn}
-use Rattle.merge.proofs.Listing.{listed_all}
-use Rattle.merge.proofs.Turning.{sizes_fit_all, turn_more, turn_last, list_less}
+use Rattle.merge.specs.Engine.{listed, state_of, Sound}
 use Rattle.merge.proofs.engine.join_all.Given as goal
 
 abbrev pub invariant-loop-left : goal.invariant-loop-left

@@ -1,9 +1,7 @@
 -- The tables are long enough for at most 1,024 subgroups.
-use mathlib.Core.Path.{sym, ap, ◌∙◌}
+use mathlib.Core.Path.{sym}
 use native.Mathlib.Omega.{arith}
-use borrow.Author.Rules.{rules}
 use lib.Seq.{length-take-le}
-use Rattle.lists.specs.Range.{range}
 use Rattle.merge.proofs.engine.join_few.Goals as goal
 
 pub slice_bounds-join_all-end : goal.slice_bounds-join_all-end

@@ -1,9 +1,7 @@
 -- The tables are long enough for all subgroups that there can be.
-use mathlib.Core.Path.{sym, ap, ◌∙◌}
+use mathlib.Core.Path.{sym}
 use native.Mathlib.Omega.{arith}
-use borrow.Author.Rules.{rules}
 use lib.Seq.{length-take-le}
-use Rattle.lists.specs.Range.{range}
 use Rattle.merge.proofs.engine.join_many.Goals as goal
 
 pub slice_bounds-join_all-end : goal.slice_bounds-join_all-end

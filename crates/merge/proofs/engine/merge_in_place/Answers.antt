@@ -1,6 +1,5 @@
 -- The numbers are filled with the definition's start; then the merge is done, or all turns are taken.
 use mathlib.Core.Path.{sym, ap, ◌∙◌}
-use borrow.Author.Rules.{rules}
 use lib.Ieee.{lt}
 use Rattle.lists.specs.Range.{range}
 use Rattle.joins.proofs.Doubles.{zero_double}

@@ -4,7 +4,6 @@ use lib.Ieee.{Float}
 use Rattle.bitset.specs.declared.entries.BitSet.{BitSet}
 use Rattle.joins.specs.Subgroup.{Subgroup}
 use Rattle.merge.specs.Tables.{subgroup_at}
-use borrow.Author.Rules.{rules}
 use Rattle.merge.proofs.tables.subgroup_at.Goals as goal
 
 pub returns : goal.returns
