@@ -5,11 +5,8 @@ use native.Mathlib.Omega.{arith}
 use borrow.Author.Tests.{lt-ltb, le-ltb, leb-false}
 use lib.ListN.{length}
 use lib.Seq.{length-take-le, length_front}
-use Rattle.capture.specs.Capture.{Given}
-use Rattle.capture.specs.Call.{Areas}
 use Rattle.capture.proofs.Ladder.{InputPassed, input_passed, refuses_input, refuses_12, refuses_13, answers}
 use Rattle.capture.proofs.Accepted.{start_ready, written}
-use borrow.Author.Rules.{rules}
 use Rattle.capture.proofs.add_module_and_dependencies_to_group_recursively.Goals as goal
 
 pub returns-then-number-ne0 : goal.returns-then-number-ne0

@@ -7,7 +7,6 @@ use Rattle.refusal.proofs.Ladder.{none_applies, applies, passes, number, no_numb
 use Rattle.records.specs.Bad.{bad_records}
 use Rattle.capture.specs.Call.{bad_counts, bad_lengths, input_tests}
 use Rattle.capture.proofs.Accepted.{records_within, flag_lengths, record_tables}
-use borrow.Author.Rules.{rules}
 use Rattle.capture.proofs.input_number.Goals as goal
 
 pub returns-then-bad_counts : goal.returns-then-bad_counts

@@ -1,7 +1,6 @@
 -- `laid_run::run_laid` meets its contract: the records laid anew are those of a build that has the same chunk list, and else the run is over the
 -- build's own.
-use Prim.Native.Nat.{ℕ, ◌-◌, ◌≤◌}
-use mathlib.Core.List.{List}
+use Prim.Native.Nat.{◌-◌, ◌≤◌}
 use mathlib.Core.Logic.{⊎_elim}
 use mathlib.Core.Path.{◌≡◌, sym}
 use native.Mathlib.Omega.{arith}
@@ -9,7 +8,7 @@ use lib.ListN.{take}
 use lib.Seq.{length-take-le}
 use Rattle.contiguous.specs.Laid.{SameDependencies}
 use Rattle.grouping.specs.Given.{Given}
-use Rattle.run.specs.Fits.{RunTables, RunFits}
+use Rattle.run.specs.Fits.{RunFits}
 use Rattle.laid_run.specs.Relaid.{with_records}
 use Rattle.laid_run.proofs.RecordsLeft.{few_modules, lay_ready, of_build}
 use Rattle.laid_run.proofs.SameList.{relaid_fits, ran_same}

@@ -1,8 +1,6 @@
 -- `laid_run::run_side_by_side` meets its contract: whichever way is taken, the run has the same one.
 use native.Mathlib.Omega.{arith}
-use Rattle.run.specs.Fits.{RunTables}
 use Rattle.laid_run.proofs.RecordsLeft.{few_records}
-use borrow.Author.Rules.{rules}
 use Rattle.laid_run.proofs.run_side_by_side.Goals as goal
 
 pub worth_laying-requires : goal.worth_laying-requires

@@ -4,7 +4,6 @@ use mathlib.Core.Path.{sym}
 use native.Mathlib.Omega.{arith}
 use lib.ListN.{length}
 use lib.Seq.{length-take-le}
-use borrow.Author.Rules.{rules}
 use Rattle.pieces.proofs.emit_oversized.Goals as goal
 
 pub slice_bounds-emit_pieces-end : goal.slice_bounds-emit_pieces-end

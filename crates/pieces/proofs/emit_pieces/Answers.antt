@@ -4,7 +4,6 @@ use Prim.Native.Nat.{◌≤◌}
 use mathlib.Core.Path.{sym}
 use lib.ListN.{length}
 use lib.Seq.{length-take-le}
-use borrow.Author.Rules.{rules}
 use Rattle.pieces.proofs.Cut.{in_starts, in_totals, in_marks, pieces_parts, pieces_numbers, pieces_converted}
 use Rattle.pieces.proofs.emit_pieces.Goals as goal
 

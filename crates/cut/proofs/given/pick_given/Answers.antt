@@ -1,11 +1,9 @@
 -- `cut::given::pick_given` meets its contract. The loop's invariant: the left total is that of the sizes before place i, and the best is that of
 -- the places before it.
-use Prim.Native.Nat.{ℕ, ◌-◌, ◌≤◌, ◌<◌}
-use mathlib.Core.List.{foldl, map}
+use Prim.Native.Nat.{ℕ, ◌-◌, ◌<◌}
 use mathlib.Core.Path.{◌≡◌, refl, sym, ap, ap₂, ◌∙◌}
 use native.Mathlib.Nat.{add-sub_cancel}
 use native.Mathlib.Omega.{arith}
-use borrow.Author.Rules.{rules}
 use lib.Ieee.{Float, binary64, add, sub}
 use lib.ListN.{length, get_or, take, drop}
 use Rattle.lists.specs.Range.{range}
@@ -15,7 +13,6 @@ use Rattle.ids.specs.Parts.{ids_of}
 use Rattle.ids.proofs.IdParts.{ids_length}
 use Rattle.cut.specs.Candidate.{candidate_at}
 use Rattle.cut.specs.Scan.{considered, chosen_from}
-use Rattle.cut.specs.declared.scan.Best.TheVariants.{Nothing}
 use Rattle.cut.specs.declared.scan.Bounds.{Bounds}
 use Rattle.cut.proofs.InOrder.{held}
 use Rattle.cut.proofs.Totals.{no_size, size_next}

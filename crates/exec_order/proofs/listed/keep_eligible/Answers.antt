@@ -1,11 +1,10 @@
 -- `exec_order::listed::keep_eligible` meets its contract. The loop's invariant: the eligible ones of the first i are kept.
-use Prim.Native.Nat.{ℕ, ◌-◌, ◌≤◌, ◌<◌}
+use Prim.Native.Nat.{ℕ, ◌<◌}
 use mathlib.Core.Bool.{Bool}
 use mathlib.Core.List.{List}
-use mathlib.Core.Logic.{⊎_elim}
 use mathlib.Core.Path.{sym, ◌∙◌, subst, subst₂}
 use native.Mathlib.Omega.{arith}
-use lib.ListN.{length, get_or, take, set}
+use lib.ListN.{length, get_or, set}
 use lib.Seq.{take_all}
 use Rattle.lists.specs.Keep.{keep}
 use Rattle.lists.proofs.KeepLoop.{keep_take_in, keep_take_out}

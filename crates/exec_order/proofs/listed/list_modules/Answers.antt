@@ -1,11 +1,9 @@
 -- `exec_order::listed::list_modules` meets its contract. The loop's invariant: the listed modules below m are kept.
-use Prim.Native.Nat.{ℕ, ◌-◌, ◌≤◌}
+use Prim.Native.Nat.{ℕ}
 use mathlib.Core.Bool.{Bool}
 use mathlib.Core.List.{List}
-use mathlib.Core.Logic.{⊎_elim}
 use mathlib.Core.Path.{◌≡◌, sym, ◌∙◌, subst, subst₂}
 use native.Mathlib.Omega.{arith}
-use borrow.Author.Rules.{rules}
 use lib.ListN.{length, get_or, set}
 use Rattle.lists.specs.Keep.{keep}
 use Rattle.lists.specs.Range.{range}

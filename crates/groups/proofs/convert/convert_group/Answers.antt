@@ -1,13 +1,11 @@
 -- `groups::convert::convert_group` meets its contract: the group's matched modules are found, and its names have their turns.
 -- ---- what is known once the group is matched
-use Prim.Native.Nat.{ℕ, ◌≤◌}
-use mathlib.Core.List.{List}
+use Prim.Native.Nat.{◌≤◌}
 use mathlib.Core.Path.{sym}
 use native.Mathlib.Omega.{arith}
 use lib.ListN.{length}
 use lib.Seq.{length-take-le}
 use Rattle.groups.proofs.GroupTurn.{group_ready, found_few, group_fits, group_turned}
-use borrow.Author.Rules.{rules}
 use Rattle.groups.proofs.convert.convert_group.Goals as goal
 
 pub match_group-count-requires : goal.match_group-count-requires

@@ -8,13 +8,11 @@ use lib.ListN.{length, take}
 use lib.Seq.{length-take-le}
 use Rattle.whole.specs.Double.{sum_f64}
 use Rattle.cut.specs.Order.{sizes_in, Sized}
-use Rattle.emitting.specs.Emitted.{Work}
 use Rattle.left.specs.Untaken.{untaken}
 use Rattle.left.proofs.KeepLeft.{left_few}
 use Rattle.items.specs.Turn.{Tables, emitted_within, ItemReady}
 use Rattle.items.proofs.FromLeft.{none_converted, nothing_left, below_minimum, from_minimum}
 use Rattle.items.proofs.Within.{same_converted}
-use borrow.Author.Rules.{rules}
 use Rattle.items.proofs.convert.convert_item_to_chunks.Goals as goal
 
 pub keep_left-count-requires : goal.keep_left-count-requires

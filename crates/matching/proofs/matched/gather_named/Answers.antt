@@ -1,9 +1,9 @@
 -- `matching::matched::gather_named` meets its contract: one place more a turn, if its module has a name.
-use Rattle.std.proofs.Common.{◌≡◌, ◌-◌, ◌<◌, ◌≤◌, length, get_or, ◌∙◌, ⊎_elim, arith, le-leb}
+use Rattle.std.proofs.Common.{◌≡◌, ◌<◌, length, get_or, ◌∙◌, arith, le-leb}
 use borrow.Author.Tests.{lt-leb}
 use Rattle.matching.specs.Matched.{named_only}
-use Rattle.matching.proofs.Gathering.{keys_below, keys_none, keys_in, keys_out, keys_all, takes_by_name, nothing_asked}
-use Rattle.matching.proofs.Writing.{Writing, none_written, one_written, none_stored, has_room}
+use Rattle.matching.proofs.Gathering.{keys_none, keys_in, keys_out, keys_all, takes_by_name, nothing_asked}
+use Rattle.matching.proofs.Writing.{none_written, one_written, none_stored, has_room}
 use Rattle.matching.proofs.matched.gather_named.Goals as goal
 use Rattle.matching.proofs.matched.gather_named.Goals.{else-answer-ge2, then-answer-ge2}
 

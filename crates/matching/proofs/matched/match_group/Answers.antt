@@ -1,7 +1,6 @@
 -- `matching::matched::match_group` meets its contract: what is gathered is sorted where it stands.
-use Rattle.std.proofs.Common.{ℕ, ◌≤◌, List, length, sym, subst, arith, length-take-le, rules}
+use Rattle.std.proofs.Common.{◌≤◌, length, sym, subst, arith, length-take-le}
 use Rattle.matching.specs.ByName.{Fits}
-use Rattle.matching.specs.Matched.{Matching}
 use Rattle.matching.proofs.MatchedKeys.{count_few, keys_fit, sorted_holds}
 use Rattle.matching.proofs.matched.match_group.Goals as goal
 

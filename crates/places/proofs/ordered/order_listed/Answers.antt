@@ -7,7 +7,6 @@ use Rattle.exec_order.specs.ByOrder.{Modules}
 use Rattle.places.specs.Ordered.{answer_of}
 use Rattle.exec_order.proofs.Keeping.{kept_fits, kept_length}
 use Rattle.places.proofs.Handing.{listed_length, listed_modules, listed_in_order}
-use borrow.Author.Rules.{rules}
 use Rattle.places.proofs.ordered.order_listed.Goals as goal
 
 pub slice_bounds-put_by_order-end : goal.slice_bounds-put_by_order-end

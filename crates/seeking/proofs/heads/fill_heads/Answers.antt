@@ -1,9 +1,7 @@
 -- The invariant: the first j heads stand for their blocks. The measure is the heads left.
-use Prim.Native.Nat.{ℕ, ◌-◌, ◌≤◌, ◌<◌}
-use mathlib.Core.Path.{◌≡◌, refl, ◌∙◌}
+use mathlib.Core.Path.{refl, ◌∙◌}
 use native.Mathlib.Omega.{arith}
-use lib.ListN.{length, get_or, length-set}
-use Rattle.seeking.specs.Seekers.{StandsFor}
+use lib.ListN.{length-set}
 use Rattle.seeking.proofs.Blocks.{one_more_head}
 use Rattle.seeking.proofs.heads.fill_heads.Goals as goal
 

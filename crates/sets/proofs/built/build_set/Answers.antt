@@ -4,7 +4,7 @@ use mathlib.Core.Bool.{true, false≢true}
 use mathlib.Core.List.{List, ◌++◌, Memᴰ}
 use mathlib.Core.Path.{◌≡◌, sym, ap, ◌∙◌, subst}
 use native.Mathlib.Omega.{arith}
-use borrow.Author.Tests.{eqb-true, not-true, not-false}
+use borrow.Author.Tests.{eqb-true}
 use lib.ListN.{length, get_or, take, drop}
 use lib.Seq.{length-take-le}
 use Rattle.walk.proofs.MarksUndone.{on_list, list_in, marks_undone}
@@ -14,7 +14,6 @@ use Rattle.sets.specs.Captured.{StartsIn, AllCaptured}
 use Rattle.sets.specs.Gathered.{marked_in}
 use Rattle.sets.proofs.Building.{holds_starts, stored_starts, stored_length, stored_in, front_room}
 use Rattle.sets.proofs.FoundAlone.{alone_marked}
-use borrow.Author.Rules.{rules}
 use Rattle.sets.proofs.built.build_set.Goals as goal
 
 pub slice_bounds-store_starts-end-2 : goal.slice_bounds-store_starts-end-2

@@ -1,6 +1,5 @@
 -- `sets::captured::capture_all` meets its contract: with the starts visited it is a walk from what is marked.
 use Rattle.sets.proofs.Starts.{cleared_state, starts_state, starts_captured, starts_alone}
-use borrow.Author.Rules.{rules}
 use Rattle.sets.proofs.captured.capture_all.Goals as goal
 
 pub mark_starts-started-requires : goal.mark_starts-started-requires

@@ -1,11 +1,9 @@
 -- `sets::captured::mark_starts` meets its contract: one start more is visited a turn.
-use Prim.Native.Nat.{◌-◌, ◌≤◌, ◌<◌}
-use mathlib.Core.List.{foldl}
-use mathlib.Core.Path.{◌≡◌, refl, sym, ◌∙◌}
+use Prim.Native.Nat.{◌<◌}
+use mathlib.Core.Path.{refl, sym, ◌∙◌}
 use native.Mathlib.Omega.{arith}
 use lib.ListN.{length, take}
 use Rattle.walk.specs.Visited.{Visited}
-use Rattle.walk.specs.Walk.{visited}
 use Rattle.sets.proofs.Starts.{some_visited, one_visited, all_visited}
 use Rattle.sets.proofs.captured.mark_starts.Goals as goal
 

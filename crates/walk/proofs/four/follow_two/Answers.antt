@@ -4,7 +4,6 @@ use mathlib.Core.List.Memᴰ
 use mathlib.Core.List.{[], ◌∷◌}
 use mathlib.Core.Path.{refl}
 use native.Mathlib.Omega.{arith}
-use borrow.Author.Rules.{rules}
 use lib.ListN.{length}
 use Rattle.walk.proofs.SideBySide.{SideBySide, side_begins, side_few, side_one, side_ends}
 use Rattle.walk.proofs.four.follow_two.Goals as goal

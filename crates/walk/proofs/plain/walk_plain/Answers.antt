@@ -5,7 +5,6 @@ use mathlib.Core.Path.{sym, ◌∙◌, subst}
 use native.Mathlib.Omega.{arith}
 use lib.ListN.{length, get_or}
 use Rattle.records.proofs.Table.{Good, good}
-use Rattle.walk.specs.Walk.{Walking}
 use Rattle.walk.specs.Chains.{Chain}
 use Rattle.walk.proofs.Passing.{link_tables, chain_begins}
 use Rattle.walk.proofs.Walking.{walk_begins, walk_takes, walk_turns_from, taken_in, list_within, list_room}

@@ -3,13 +3,12 @@
 use Prim.Native.Nat.{◌-◌}
 use mathlib.Core.Path.{sym, ◌∙◌}
 use native.Mathlib.Omega.{arith}
-use borrow.Author.Rules.{rules}
 use mir.Facts.{Fits-32_64}
 use lib.ListN.{length}
-use Rattle.records.specs.Chain.{chain_from, chain_of, dependencies}
+use Rattle.records.specs.Chain.{chain_of, dependencies}
 use Rattle.records.proofs.ChainMarks.{record_marked}
 use Rattle.records.proofs.Table.{Good, good}
-use Rattle.walk.proofs.Chains.{Following, follow_begins, follow_ends, followed_ends, follow_less, follow_turns, named_in}
+use Rattle.walk.proofs.Chains.{follow_begins, follow_ends, followed_ends, follow_less, follow_turns, named_in}
 use Rattle.walk.proofs.walk.follow.Goals as goal
 
 pub offset_bounds-first-at : goal.offset_bounds-first-at

@@ -2,11 +2,9 @@
 use Prim.Native.Nat.{◌<◌}
 use mathlib.Core.Path.{sym, ◌∙◌}
 use native.Mathlib.Omega.{arith}
-use borrow.Author.Tests.{not-true, not-false}
 use lib.ListN.{length}
 use Rattle.walk.proofs.State.{state_room}
 use Rattle.walk.proofs.Visit.{visit_ineligible, visit_marked, visit_new}
-use borrow.Author.Rules.{rules}
 use Rattle.walk.proofs.walk.visit.Goals as goal
 
 pub returns-then-marks-at-ne0 : goal.returns-then-marks-at-ne0

@@ -1,6 +1,5 @@
 -- `walk::walk::walk` meets its contract: with all modules taken off the part without marks is the whole walk, else the part with marks goes on
 -- from where it had come to.
-use borrow.Author.Rules.{rules}
 use Rattle.walk.proofs.Walking.{walk_ends, walk_joins}
 use Rattle.walk.proofs.walk.walk.Goals as goal
 

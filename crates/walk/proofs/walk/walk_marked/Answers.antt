@@ -5,9 +5,8 @@ use mathlib.Core.Path.{sym, ◌∙◌}
 use native.Mathlib.Omega.{arith}
 use lib.ListN.{length}
 use Rattle.records.proofs.Table.{Good, good}
-use Rattle.walk.specs.Walk.{Walking}
 use Rattle.walk.proofs.Walking.{walk_resumes, walk_turns, walk_ends, taken_in, list_within}
-use Rattle.walk.proofs.Trail.{Trail, trail_begins, trail_turns, trail_ends, part_in, unfollowed_bytes}
+use Rattle.walk.proofs.Trail.{trail_begins, trail_turns, trail_ends, part_in, unfollowed_bytes}
 use Rattle.walk.proofs.walk.walk_marked.Goals as goal
 
 pub bounds-followed-0 : goal.bounds-followed-0
