@@ -1,5 +1,5 @@
 -- The kind was found, or its row is stored after the others and the kind put first in its bucket.
-use Rattle.std.proofs.Common.{arith, rules}
+use Rattle.std.proofs.Common.{arith}
 use Rattle.subgroups.proofs.Chains.{bucket_below, kind_chained}
 use Rattle.subgroups.proofs.Entering.{kind_there, kind_added, row_fits}
 use Rattle.subgroups.proofs.kinds.enter_kind.Goals as goal

@@ -1,5 +1,5 @@
 -- `subgroups::processing::process_entries_aware_group` meets its contract: the stages are run in tables that have room for every set.
-use Rattle.std.proofs.Common.{◌≤◌, length, sym, length-take-le, rules}
+use Rattle.std.proofs.Common.{◌≤◌, length, sym, length-take-le}
 use Rattle.subgroups.proofs.processing.process_entries_aware_group.Goals as goal
 
 pub slice_bounds-run_stages-end : goal.slice_bounds-run_stages-end

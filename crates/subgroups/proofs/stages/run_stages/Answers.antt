@@ -1,6 +1,6 @@
 -- The kinds are found, their first rows merged, and the positions divided by what the merge leaves.
 -- ---- what is known once the kinds are found
-use Rattle.std.proofs.Common.{◌≡◌, ℕ, ◌*◌, ◌≤◌, List, ◌++◌, length, take, drop, sym, ◌∙◌, arith, length-append, length-drop, length-take-le, rules}
+use Rattle.std.proofs.Common.{◌≡◌, ◌*◌, ◌≤◌, ◌++◌, length, take, drop, sym, ◌∙◌, arith, length-append, length-drop, length-take-le}
 use Rattle.subgroups.proofs.Merging.{few, mergeable, can_divide, processed}
 use Rattle.subgroups.proofs.stages.run_stages.Goals as goal
 
