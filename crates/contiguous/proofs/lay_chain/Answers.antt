@@ -16,7 +16,7 @@ pub shape_of-to_next-then-r-eq0 : goal.shape_of-to_next-then-r-eq0
 shape_of-to_next-then-r-eq0 c = c.loop-to.invariant.0.nexts
 
 pub returns-then-r-eq0 : goal.returns-then-r-eq0
-returns-then-r-eq0 c = record { end_le_room = c.loop-to.invariant.1; laying = λ _. rw (sym c.if-r-eq0.true) c.loop-to.invariant.0; }
+returns-then-r-eq0 c = record { end_le_room = c.loop-to.invariant.1; laying = λ _. rw (sym c.if-r-eq0.true) c.loop-to.invariant.0 }
 
 pub offset_bounds-dependency-r : goal.offset_bounds-dependency-r
 offset_bounds-dependency-r c = omega (arith, c.loop-to.invariant.0.record_in, c.requires.modules)
@@ -69,4 +69,4 @@ pub shape_of-to_next : goal.shape_of-to_next
 shape_of-to_next c = c.loop-to.invariant.0.nexts
 
 pub returns : goal.returns
-returns c = record { end_le_room = c.loop-to.invariant.1; laying = λ e. rw (sym (eqb-true c.loop-to.r 0 e)) c.loop-to.invariant.0; }
+returns c = record { end_le_room = c.loop-to.invariant.1; laying = λ e. rw (sym (eqb-true c.loop-to.r 0 e)) c.loop-to.invariant.0 }

@@ -48,7 +48,7 @@ overflow_cast-divided c = omega (arith, c.type_inv.divided c.loop-from.from)
 pub row-own-requires : goal.row-own-requires
 row-own-requires c =
     let row-there : 4 * key_of (get_or c.args.divided.now c.loop-from.from 0) + 4 ≤ length c.args.kind_bits.now =
-        let a = c.args in
+    let a = c.args in
     run_row a.settings a.group a.name c.requires c.loop-from.invariant.0 c.run_end-to.ensures in
     row-there
 
@@ -90,8 +90,7 @@ store_starts-requires c =
     let w = c.loop-from.invariant.0 in
     let e = c.run_end-to in
     let room = run_room a.settings a.group a.name c.requires w e.ensures in
-    let long = run_length a.settings a.group a.name c.requires w e.ensures in
-    (
+    let long = run_length a.settings a.group a.name c.requires w e.ensures in (
       run_positions a.settings a.group a.name c.requires w e.ensures,
       long ∙ sym (length-take-le _ _ (omega (arith, room, c.requires.few, c.loop-from.invariant.1))),
     )
@@ -117,20 +116,19 @@ slice_bounds-convert_item_to_chunks-end c =
 pub overflow_cast-made : goal.overflow_cast-made
 overflow_cast-made c =
     let number_small : c.args.number.0 + c.loop-from.made ≤ 73727 =
-        let a = c.args in walk_number a.settings a.group a.name c.requires c.loop-from.invariant.0 in
+    let a = c.args in walk_number a.settings a.group a.name c.requires c.loop-from.invariant.0 in
     omega (arith, number_small)
 
 pub overflow_add-number : goal.overflow_add-number
 overflow_add-number c =
     let number_small : c.args.number.0 + c.loop-from.made ≤ 73727 =
-        let a = c.args in walk_number a.settings a.group a.name c.requires c.loop-from.invariant.0 in
+    let a = c.args in walk_number a.settings a.group a.name c.requires c.loop-from.invariant.0 in
     omega (arith, number_small)
 
 pub overflow_add-at : goal.overflow_add-at
 overflow_add-at c =
     let place-small : c.args.at + c.loop-from.made ≤ length c.loop-from.group_of =
-        let a = c.args in walk_place a.settings a.group a.name c.requires c.loop-from.invariant.0 in
-    
+    let a = c.args in walk_place a.settings a.group a.name c.requires c.loop-from.invariant.0 in
     omega (arith, place-small, c.loop-from.invariant.0.lengths.group_of, c.well_formed.1.1.1.1.1.1.1.1.1.1.1.1.1.1.1.0)
 
 pub convert_item_to_chunks-more-requires : goal.convert_item_to_chunks-more-requires
@@ -163,15 +161,15 @@ overflow_add-made c =
     let m = c.convert_item_to_chunks-more in
     let n = m.new in
     let kept : SameLengths (areas n.chunk_of n.group_of n.name_of n.size_of n.bits_of n.mark_of)
-        (areas l.chunk_of l.group_of l.name_of l.size_of l.bits_of l.mark_of) =
-        record {
-          chunk_of = m.auto.chunk_of;
-          group_of = m.auto.group_of;
-          name_of = m.auto.name_of;
-          size_of = m.auto.size_of;
-          bits_of = m.auto.bits_of;
-          mark_of = m.auto.mark_of;
-        } in
+    (areas l.chunk_of l.group_of l.name_of l.size_of l.bits_of l.mark_of) =
+    record {
+      chunk_of = m.auto.chunk_of;
+      group_of = m.auto.group_of;
+      name_of = m.auto.name_of;
+      size_of = m.auto.size_of;
+      bits_of = m.auto.bits_of;
+      mark_of = m.auto.mark_of;
+    } in
     let turned = walk_more a.settings a.group a.name c.requires w e.ensures _ is c.row-own.result c.row-own.ensures kept m.ensures.converted in
     omega (arith, walk_number a.settings a.group a.name c.requires turned)
 
@@ -192,17 +190,16 @@ loop-from-preserved c =
     let m = c.convert_item_to_chunks-more in
     let n = m.new in
     let kept : SameLengths (areas n.chunk_of n.group_of n.name_of n.size_of n.bits_of n.mark_of)
-        (areas l.chunk_of l.group_of l.name_of l.size_of l.bits_of l.mark_of) =
-        record {
-          chunk_of = m.auto.chunk_of;
-          group_of = m.auto.group_of;
-          name_of = m.auto.name_of;
-          size_of = m.auto.size_of;
-          bits_of = m.auto.bits_of;
-          mark_of = m.auto.mark_of;
-        } in
-    let turned = walk_more a.settings a.group a.name c.requires w e.ensures _ is c.row-own.result c.row-own.ensures kept m.ensures.converted in
-    (
+    (areas l.chunk_of l.group_of l.name_of l.size_of l.bits_of l.mark_of) =
+    record {
+      chunk_of = m.auto.chunk_of;
+      group_of = m.auto.group_of;
+      name_of = m.auto.name_of;
+      size_of = m.auto.size_of;
+      bits_of = m.auto.bits_of;
+      mark_of = m.auto.mark_of;
+    } in
+    let turned = walk_more a.settings a.group a.name c.requires w e.ensures _ is c.row-own.result c.row-own.ensures kept m.ensures.converted in (
       turned,
       list_long a.set.now _ c.store_starts.new.set l.list long c.store_starts.ensures (omega (arith, room, c.requires.few)) l.invariant.1,
       m.auto.members ∙ l.invariant.2,

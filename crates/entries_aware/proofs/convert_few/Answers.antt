@@ -12,24 +12,22 @@ use Rattle.entries_aware.proofs.convert_few.Goals as goal
 pub slice_bounds-process_entries_aware_group-end-2 : goal.slice_bounds-process_entries_aware_group-end-2
 slice_bounds-process_entries_aware_group-end-2 c =
     let few : length c.args.set.now ≤ 1024 =
-        c.requires.set_len_bound.0 in
+    c.requires.set_len_bound.0 in
     sym (length-take-le _ _ (few))
 
 pub process_entries_aware_group-requires : goal.process_entries_aware_group-requires
 process_entries_aware_group-requires c =
     let few : length c.args.set.now ≤ 1024 =
-        c.requires.set_len_bound.0 in
-    
+    c.requires.set_len_bound.0 in
     let n = few in
     (set_members c.requires.set_turning (omega arith), record { row_each = omega arith; order_fits = length-take-le _ _ n }, set_ranks c.requires.set_turning)
 
 pub slice_bounds-divided-end-2 : goal.slice_bounds-divided-end-2
 slice_bounds-divided-end-2 c =
     let few : length c.args.set.now ≤ 1024 =
-        c.requires.set_len_bound.0 in
+    c.requires.set_len_bound.0 in
     let order-long : length ((c.process_entries_aware_group.new.order)) ≡ length c.args.set.now =
-        c.process_entries_aware_group.auto.order ∙ length-take-le _ _ (few) in
-    
+    c.process_entries_aware_group.auto.order ∙ length-take-le _ _ (few) in
     simp length-append (omega (arith, order-long))
 
 pub convert_divided-requires : goal.convert_divided-requires

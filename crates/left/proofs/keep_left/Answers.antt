@@ -30,5 +30,7 @@ loop-i-preserved c =
     let l = c.loop-i in
     let a = c.args in
     let m = get_or a.list.now l.i 0 in
-    (elim c.if-chunk_of-m-eq0.branch [ then-chunk_of-m-eq0 w ↦ rw w.count-is (one_kept l.invariant c.loop-i-test.true (omega arith) (eq-eqb (get_or a.chunk_of.now m 0) 0 w.if-chunk_of-m-eq0.true))
-    | else-chunk_of-m-eq0 w ↦ rw w.count-is (one_passed l.invariant c.loop-i-test.true (ne_eqb (get_or a.chunk_of.now m 0) 0 w.if-chunk_of-m-eq0.false)) ])
+    (elim c.if-chunk_of-m-eq0.branch [
+      | then-chunk_of-m-eq0 w ↦ rw w.count-is (one_kept l.invariant c.loop-i-test.true (omega arith) (eq-eqb (get_or a.chunk_of.now m 0) 0 w.if-chunk_of-m-eq0.true))
+      | else-chunk_of-m-eq0 w ↦ rw w.count-is (one_passed l.invariant c.loop-i-test.true (ne_eqb (get_or a.chunk_of.now m 0) 0 w.if-chunk_of-m-eq0.false))
+    ])

@@ -36,7 +36,7 @@ int_to_float-left c =
 
 pub look_at-best-requires : goal.look_at-best-requires
 look_at-best-requires c =
-    let l = c.loop-i in record { named_pair = pair_given _ _ c.args.sizes.now l.i l.invariant.0 (omega arith) c.requires; le_i = (l.invariant.0, omega (arith, c.requires.few)); }
+    let l = c.loop-i in record { named_pair = pair_given _ _ c.args.sizes.now l.i l.invariant.0 (omega arith) c.requires; le_i = (l.invariant.0, omega (arith, c.requires.few)) }
 
 pub loop-i-preserved : goal.loop-i-preserved
 loop-i-preserved c =

@@ -16,7 +16,7 @@ loop-i-init c =
     let a = c.args in (no_size (sizes_in a.sizes.now a.order.now), omega arith)
 
 pub size_at-total-requires : goal.size_at-total-requires
-size_at-total-requires c = record { sized = c.requires; i_in_bounds = c.loop-i-test.true; }
+size_at-total-requires c = record { sized = c.requires; i_in_bounds = c.loop-i-test.true }
 
 pub loop-i-preserved : goal.loop-i-preserved
 loop-i-preserved c =

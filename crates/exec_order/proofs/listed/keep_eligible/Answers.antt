@@ -39,15 +39,17 @@ loop-i-preserved c =
     let m : ℕ = get_or a.list.now l.i 0 in
     let h : l.i < length a.list.now = omega arith in
     let K : List ℕ → ℕ → Type 0 = λ kept r. Kept kept r a.order.now (set l.order l.count m) in
-    (elim c.if-is_eligible_at.branch [ then-is_eligible_at w ↦ (
-      omega arith,
-      omega arith,
-      subst₂ K (sym (keep_take_in p a.list.now l.i 0 h (sym c.is_eligible_at.ensures ∙ w.if-is_eligible_at.true))) (sym w.count-is)
-          (kept_in l.invariant.2 m (omega arith)),
-    )
-    | else-is_eligible_at w ↦ (
-      omega arith,
-      omega arith,
-      subst₂ K (sym (keep_take_out p a.list.now l.i 0 h (sym c.is_eligible_at.ensures ∙ w.if-is_eligible_at.false))) (sym w.count-is)
-          (kept_out l.invariant.2 m),
-    ) ])
+    (elim c.if-is_eligible_at.branch [
+      | then-is_eligible_at w ↦ (
+        omega arith,
+        omega arith,
+        subst₂ K (sym (keep_take_in p a.list.now l.i 0 h (sym c.is_eligible_at.ensures ∙ w.if-is_eligible_at.true))) (sym w.count-is)
+            (kept_in l.invariant.2 m (omega arith)),
+      )
+      | else-is_eligible_at w ↦ (
+        omega arith,
+        omega arith,
+        subst₂ K (sym (keep_take_out p a.list.now l.i 0 h (sym c.is_eligible_at.ensures ∙ w.if-is_eligible_at.false))) (sym w.count-is)
+            (kept_out l.invariant.2 m),
+      )
+    ])

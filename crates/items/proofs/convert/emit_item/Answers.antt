@@ -14,7 +14,7 @@ use Rattle.items.proofs.convert.emit_item.Goals as goal
 pub emit_chunk-requires : goal.emit_chunk-requires
 emit_chunk-requires c =
     let p = c.requires in
-    record { room = whole_room p.item_ready p.totalled.some; number_bound = whole_number p.item_ready p.totalled.some; }
+    record { room = whole_room p.item_ready p.totalled.some; number_bound = whole_number p.item_ready p.totalled.some }
 
 pub emit_over_maximum-requires : goal.emit_over_maximum-requires
 emit_over_maximum-requires c = c.requires

@@ -7,7 +7,7 @@ use Rattle.matching.proofs.matched.match_group.Goals as goal
 pub slice_bounds-sort_by_name-end : goal.slice_bounds-sort_by_name-end
 slice_bounds-sort_by_name-end c =
     let few : c.gather_group-count.result ≤ length c.args.order.now =
-        count_few ((record {
+    count_few ((record {
       filter = c.args.filter;
       answers = c.args.answers.now;
       tags = c.args.tags.now;
@@ -15,13 +15,13 @@ slice_bounds-sort_by_name-end c =
       shares = c.args.shares.now;
     })) c.args.order.now c.gather_group-count.ensures in
     let fit : c.gather_group-count.result ≤ length ((c.gather_group-count.new.keys)) =
-        omega (arith, few, c.requires.room, c.gather_group-count.auto.keys) in
+    omega (arith, few, c.requires.room, c.gather_group-count.auto.keys) in
     fit
 
 pub slice_bounds-sort_by_name-end-2 : goal.slice_bounds-sort_by_name-end-2
 slice_bounds-sort_by_name-end-2 c =
     let few : c.gather_group-count.result ≤ length c.args.order.now =
-        count_few ((record {
+    count_few ((record {
       filter = c.args.filter;
       answers = c.args.answers.now;
       tags = c.args.tags.now;
@@ -29,14 +29,13 @@ slice_bounds-sort_by_name-end-2 c =
       shares = c.args.shares.now;
     })) c.args.order.now c.gather_group-count.ensures in
     let fit : c.gather_group-count.result ≤ length ((c.gather_group-count.new.keys)) =
-        omega (arith, few, c.requires.room, c.gather_group-count.auto.keys) in
-    
+    omega (arith, few, c.requires.room, c.gather_group-count.auto.keys) in
     sym (length-take-le c.gather_group-count.result ((c.gather_group-count.new.keys)) (fit))
 
 pub sort_by_name-requires : goal.sort_by_name-requires
 sort_by_name-requires c =
     let few : c.gather_group-count.result ≤ length c.args.order.now =
-        count_few ((record {
+    count_few ((record {
       filter = c.args.filter;
       answers = c.args.answers.now;
       tags = c.args.tags.now;
@@ -44,17 +43,16 @@ sort_by_name-requires c =
       shares = c.args.shares.now;
     })) c.args.order.now c.gather_group-count.ensures in
     let fit : c.gather_group-count.result ≤ length ((c.gather_group-count.new.keys)) =
-        omega (arith, few, c.requires.room, c.gather_group-count.auto.keys) in
-    
+    omega (arith, few, c.requires.room, c.gather_group-count.auto.keys) in
     let n = c.gather_group-count.result in (
       rw (length-take-le n ((c.gather_group-count.new.keys)) (fit)) (omega (arith, few, c.requires.few)),
       subst Fits (sym c.gather_group-count.ensures.entries) (keys_fit ((record {
-      filter = c.args.filter;
-      answers = c.args.answers.now;
-      tags = c.args.tags.now;
-      sizes = c.args.sizes.now;
-      shares = c.args.shares.now;
-    })) c.args.order.now c.requires),
+        filter = c.args.filter;
+        answers = c.args.answers.now;
+        tags = c.args.tags.now;
+        sizes = c.args.sizes.now;
+        shares = c.args.shares.now;
+      })) c.args.order.now c.requires),
     )
 
 pub returns : goal.returns

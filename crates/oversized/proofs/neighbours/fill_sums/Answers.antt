@@ -16,7 +16,7 @@ loop-i-init c =
     (omega arith, c.requires.1, λ k from h. absurd (omega arith), no_size (sizes_in c.args.sizes.now c.args.order.now))
 
 pub size_at-sum-requires : goal.size_at-sum-requires
-size_at-sum-requires c = record { sized = c.requires.0; i_in_bounds = omega arith; }
+size_at-sum-requires c = record { sized = c.requires.0; i_in_bounds = omega arith }
 
 pub loop-i-preserved : goal.loop-i-preserved
 loop-i-preserved c =

@@ -17,11 +17,10 @@ pub slice_bounds-put_by_order-end-2 : goal.slice_bounds-put_by_order-end-2
 slice_bounds-put_by_order-end-2 c = kept_length c.list_modules-count.ensures
 
 pub put_by_order-requires : goal.put_by_order-requires
-put_by_order-requires c =
-    (
-      subst (λ (l : List ℕ). Modules c.args.orders.now l) (sym c.list_modules-count.ensures.first) (listed_modules c.args.flags.now c.requires),
-      omega (arith, kept_length c.list_modules-count.ensures, c.list_modules-count.ensures.count, listed_length c.args.flags.now, c.requires.few),
-    )
+put_by_order-requires c = (
+  subst (λ (l : List ℕ). Modules c.args.orders.now l) (sym c.list_modules-count.ensures.first) (listed_modules c.args.flags.now c.requires),
+  omega (arith, kept_length c.list_modules-count.ensures, c.list_modules-count.ensures.count, listed_length c.args.flags.now, c.requires.few),
+)
 
 pub returns-then-put_by_order : goal.returns-then-put_by_order
 unfolding answer_of

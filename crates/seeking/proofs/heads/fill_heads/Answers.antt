@@ -22,8 +22,7 @@ loop-j-smaller c = simp length-set (omega arith)
 
 pub loop-j-preserved : goal.loop-j-preserved
 loop-j-preserved c =
-    let l = c.loop-j in
-    (
+    let l = c.loop-j in (
       simp length-set (omega arith),
       length-set l.heads l.j c.head_of-head.result ∙ l.invariant.1,
       one_more_head c.args.threshold c.args.sizes.now l.heads l.j c.head_of-head.result (omega arith) c.head_of-head.ensures l.invariant.2,

@@ -31,7 +31,6 @@ shape_of-marks c =
     Visited s.flags.now (length s.flags.now) (take l.i s.starts.now)
     (record { marks = s.marks.now; queue = s.queue.now; tail = 0 })
     (record { marks = l.marks; queue = l.queue; tail = l.tail }) =
-        
     let l = c.loop-i in
     some_visited c.args.flags.now c.args.starts.now _ _ c.requires.state c.requires.starts_in l.i l.invariant.1 in
     let v = visits in
@@ -44,7 +43,6 @@ shape_of-queue c =
     Visited s.flags.now (length s.flags.now) (take l.i s.starts.now)
     (record { marks = s.marks.now; queue = s.queue.now; tail = 0 })
     (record { marks = l.marks; queue = l.queue; tail = l.tail }) =
-        
     let l = c.loop-i in
     some_visited c.args.flags.now c.args.starts.now _ _ c.requires.state c.requires.starts_in l.i l.invariant.1 in
     (visits).queue_length

@@ -48,5 +48,7 @@ loop-i-preserved c =
     let r : l.i < length c.args.set.now = omega (arith, c.requires.room) in
     let o = c.args.order.now in
     let m = c.args.marks.now in
-    (elim c.if-marks-m-eq1.branch [ then-marks-m-eq1 w ↦ rw w.count-is (one_written l.invariant (get_or o l.i 0) (marked_in_lem m o l.i h w.if-marks-m-eq1.true) r)
-    | else-marks-m-eq1 w ↦ rw w.count-is (none_stored l.invariant (get_or o l.i 0) (marked_out m o l.i h w.if-marks-m-eq1.false)) ])
+    (elim c.if-marks-m-eq1.branch [
+      | then-marks-m-eq1 w ↦ rw w.count-is (one_written l.invariant (get_or o l.i 0) (marked_in_lem m o l.i h w.if-marks-m-eq1.true) r)
+      | else-marks-m-eq1 w ↦ rw w.count-is (none_stored l.invariant (get_or o l.i 0) (marked_out m o l.i h w.if-marks-m-eq1.false))
+    ])

@@ -24,5 +24,7 @@ pub loop-i-preserved : goal.loop-i-preserved
 loop-i-preserved c =
     let l = c.loop-i in
     let h : l.i < length c.args.list.now = omega (arith, l.invariant.written.same_length) in
-    (elim c.if-marks-m-eq1.branch [ then-marks-m-eq1 w ↦ rw w.count-is (one_left l.invariant h w.if-marks-m-eq1.true)
-    | else-marks-m-eq1 w ↦ rw w.count-is (one_gone l.invariant h w.if-marks-m-eq1.false) ])
+    (elim c.if-marks-m-eq1.branch [
+      | then-marks-m-eq1 w ↦ rw w.count-is (one_left l.invariant h w.if-marks-m-eq1.true)
+      | else-marks-m-eq1 w ↦ rw w.count-is (one_gone l.invariant h w.if-marks-m-eq1.false)
+    ])

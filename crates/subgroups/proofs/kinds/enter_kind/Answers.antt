@@ -8,12 +8,11 @@ pub bucket_of-requires : goal.bucket_of-requires
 bucket_of-requires c = tt
 
 pub push_kind-requires : goal.push_kind-requires
-push_kind-requires c =
-    (
-      omega (arith, bucket_below c.args.bits, c.bucket_of.ensures, c.requires.2.heads_fit),
-      omega (arith, c.requires.2.chain_room),
-      c.requires.3,
-    )
+push_kind-requires c = (
+  omega (arith, bucket_below c.args.bits, c.bucket_of.ensures, c.requires.2.heads_fit),
+  omega (arith, c.requires.2.chain_room),
+  c.requires.3,
+)
 
 pub returns-then-kind-count : goal.returns-then-kind-count
 returns-then-kind-count c =
@@ -40,4 +39,3 @@ returns c =
           c.bucket_of.result c.bucket_of.ensures c.push_kind.new.heads c.push_kind.new.chain
           record { new_head = c.push_kind.ensures.new_head; new_link = c.push_kind.ensures.new_link },
     )
-

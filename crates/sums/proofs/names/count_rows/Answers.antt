@@ -8,11 +8,10 @@ use Rattle.sums.proofs.RowCount.{rows_begin, rows_turn, row_ready}
 use Rattle.sums.proofs.names.count_rows.Goals as goal
 
 pub loop-i-init : goal.loop-i-init
-loop-i-init c =
-    (
-      omega arith,
-      rows_begin c.args.answers.now (length c.args.seen.now - 2) c.args.n c.args.seen.now (omega (arith, c.requires.unnamed)) c.requires.clear,
-    )
+loop-i-init c = (
+  omega arith,
+  rows_begin c.args.answers.now (length c.args.seen.now - 2) c.args.n c.args.seen.now (omega (arith, c.requires.unnamed)) c.requires.clear,
+)
 
 pub overflow_mul-start : goal.overflow_mul-start
 overflow_mul-start c =

@@ -58,4 +58,4 @@ shape_of-queue c = c.loop-r.invariant.queue_length
 
 pub returns : goal.returns
 returns c =
-    let z = c.loop-r-test.false in record { from_value = pass_ends c.requires.tables c.loop-r.invariant z; gone_value = pass_counted c.requires.tables c.loop-r.invariant z; }
+    let z = c.loop-r-test.false in record { from_value = pass_ends c.requires.tables c.loop-r.invariant z; gone_value = pass_counted c.requires.tables c.loop-r.invariant z }

@@ -20,19 +20,19 @@ returns-then-not-is_eligible_at c =
 pub offset_bounds-queue-tail : goal.offset_bounds-queue-tail
 offset_bounds-queue-tail c =
     let has_room : c.args.tail < length c.args.queue.now =
-        state_room c.args.flags.now _ _ c.requires.state c.args.named.0 c.requires.module_in c.if-marks-at-ne0.false in
+    state_room c.args.flags.now _ _ c.requires.state c.args.named.0 c.requires.module_in c.if-marks-at-ne0.false in
     omega (arith, has_room)
 
 pub bounds-queue-tail : goal.bounds-queue-tail
 bounds-queue-tail c =
     let has_room : c.args.tail < length c.args.queue.now =
-        state_room c.args.flags.now _ _ c.requires.state c.args.named.0 c.requires.module_in c.if-marks-at-ne0.false in
+    state_room c.args.flags.now _ _ c.requires.state c.args.named.0 c.requires.module_in c.if-marks-at-ne0.false in
     has_room
 
 pub overflow_add-result : goal.overflow_add-result
 overflow_add-result c =
     let has_room : c.args.tail < length c.args.queue.now =
-        state_room c.args.flags.now _ _ c.requires.state c.args.named.0 c.requires.module_in c.if-marks-at-ne0.false in
+    state_room c.args.flags.now _ _ c.requires.state c.args.named.0 c.requires.module_in c.if-marks-at-ne0.false in
     omega (arith, has_room)
 
 pub returns : goal.returns
