@@ -1,5 +1,4 @@
 -- `closed::build_left` meets its contract: each way through it is one of the two ways of the definition.
-use borrow.Author.Rules.{rules}
 use Rattle.closed.proofs.ClosedSets.{live_on, live_off}
 use Rattle.closed.proofs.build_left.Goals as goal
 

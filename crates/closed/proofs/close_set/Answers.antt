@@ -1,8 +1,6 @@
 -- `closed::close_set` meets its contract: each way through it is one of the two ways of the definition.
 use mathlib.Core.Path.{sym, ◌∙◌}
-use borrow.Author.Tests.{not-true, not-false}
 use Rattle.closed.specs.Closed.{closed_after}
-use borrow.Author.Rules.{rules}
 use Rattle.closed.proofs.close_set.Goals as goal
 
 pub returns-then-not-closing : goal.returns-then-not-closing

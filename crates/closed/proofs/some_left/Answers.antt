@@ -1,5 +1,4 @@
 -- `closed::some_left` meets its contract. The loop's invariant: each module before i has a chunk.
-use Prim.Native.Nat.{◌-◌, ◌≤◌}
 use mathlib.Core.Bool.{false}
 use mathlib.Core.Path.{◌≡◌, refl, sym, ap, ◌∙◌}
 use native.Mathlib.Numerals.{add-one}

@@ -4,19 +4,17 @@ use mathlib.Core.Bool.{Bool}
 use mathlib.Core.List.{List}
 use mathlib.Core.Path.{◌≡◌, sym, ap, ◌∙◌}
 use lib.Ieee.{Float}
-use Rattle.limit.specs.declared.Limit.{Limit}
 use Rattle.limit.specs.declared.Limit.TheVariants.{Given}
-use Rattle.emitting.specs.Emitted.{Emission}
 use Rattle.emitting.specs.declared.emit.Head.{Head}
 use Rattle.items.specs.declared.convert.Limits.{Limits}
-use Rattle.items.specs.Turn.{Tables, in_pieces, over_limit, emitted_over, emitted_within}
+use Rattle.items.specs.Turn.{Tables, in_pieces, emitted_over, emitted_within}
 use Rattle.items.proofs.Within.{whole_room, whole_number, whole_converted, emitted_by_lem, anew_head, same_head, same_converted}
 use Rattle.items.proofs.convert.emit_item.Goals as goal
 
 pub emit_chunk-requires : goal.emit_chunk-requires
 emit_chunk-requires c =
     let p = c.requires in
-    record { room = whole_room p.item_ready p.totalled.some; number_bound = whole_number p.item_ready p.totalled.some; }
+    record { room = whole_room p.item_ready p.totalled.some; number_bound = whole_number p.item_ready p.totalled.some }
 
 pub emit_over_maximum-requires : goal.emit_over_maximum-requires
 emit_over_maximum-requires c = c.requires

@@ -1,5 +1,4 @@
 -- `items::convert::emit_over_maximum` meets its contract: put in id order the modules can be cut, and the pieces are the item's.
-use borrow.Author.Rules.{rules}
 use Rattle.items.proofs.InPieces.{order_ready, order_chunks}
 use Rattle.items.proofs.Within.{same_converted}
 use Rattle.items.proofs.convert.emit_over_maximum.Goals as goal

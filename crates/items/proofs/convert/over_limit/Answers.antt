@@ -1,6 +1,5 @@
 -- `items::convert::over_limit` meets its contract.
 use mathlib.Core.Path.{sym, ap, ◌∙◌}
-use borrow.Author.Rules.{rules}
 use Rattle.limit.specs.declared.Limit.{Limit}
 use Rattle.items.specs.Turn.{over_limit}
 use Rattle.items.proofs.convert.over_limit.Goals as goal
