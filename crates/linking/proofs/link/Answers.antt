@@ -4,7 +4,7 @@ use mathlib.Core.List.{List}
 use native.Mathlib.Omega.{arith}
 use lib.ListN.{length, get_or}
 use Rattle.linking.specs.Links.{Links}
-use Rattle.linking.proofs.OneMore.{Pushing, push_start, push_end, push_none, push_some}
+use Rattle.linking.proofs.OneMore.{push_start, push_end, push_none, push_some}
 use Rattle.linking.proofs.link.Goals as goal
 
 abbrev links : List ℕ → List ℕ → Links

@@ -1,10 +1,8 @@
 -- `linking::link` meets its contract. The loop's invariant: the modules from place `left` on are pushed.
-use Prim.Native.Nat.{ℕ, ◌-◌, ◌<◌}
+use Prim.Native.Nat.{ℕ}
 use mathlib.Core.List.{List}
-use native.Mathlib.Omega.{arith}
-use lib.ListN.{length, get_or}
 use Rattle.linking.specs.Links.{Links}
-use Rattle.linking.proofs.OneMore.{Pushing, push_start, push_end, push_none, push_some}
+use Rattle.linking.proofs.OneMore.{Pushing}
 use Rattle.linking.proofs.link.Given as goal
 
 abbrev links : List ℕ → List ℕ → Links

@@ -1,19 +1,16 @@
 -- `names::convert_names` meets its contract. The loop's invariant: the names before the run at `from` have had their turns, nothing is
 -- marked, and what walks pass over is closed.
-use Prim.Native.Nat.{ℕ, ◌-◌, ◌≤◌}
-use mathlib.Core.List.{List, ◌++◌}
+use Prim.Native.Nat.{ℕ, ◌≤◌}
+use mathlib.Core.List.{◌++◌}
 use mathlib.Core.Path.{◌≡◌, refl, sym, ap, ◌∙◌}
 use native.Mathlib.Omega.{arith}
-use borrow.Author.Rules.{rules}
 use lib.ListN.{length, take, drop, replicate, length-replicate}
 use lib.Seq.{length-take-le, length_front}
-use Rattle.forget.specs.Unfollowed.{unfollowed}
 use Rattle.walk.proofs.Trail.{unfollowed_bytes}
-use Rattle.closed.specs.Closed.{Closed}
 use Rattle.matching.proofs.KeysTogether.{keys_together}
 use Rattle.closed.proofs.ClosedSets.{live_bytes, closed_as}
 use Rattle.names.proofs.SetOfRun.{names_ascend, run_is, set_ready}
-use Rattle.names.proofs.NameSteps.{NamesDone, names_start, number_now, place_now, count_in, number_next, names_next, names_turned}
+use Rattle.names.proofs.NameSteps.{names_start, number_now, place_now, count_in, number_next, names_next, names_turned}
 use Rattle.names.proofs.NameSteps.{set_entries, set_flags, set_offered, closed_then}
 use Rattle.names.proofs.convert_names.Goals as goal
 
@@ -47,20 +44,19 @@ slice_bounds-build_left-end c = c.run_end-to.ensures.within
 pub slice_bounds-build_left-end-in-loop-from : goal.slice_bounds-build_left-end-in-loop-from
 slice_bounds-build_left-end-in-loop-from c =
     let list-fits : c.args.n ≤ length c.loop-from.scratch =
-        omega (arith, c.requires.names_room.0.scratch_room, c.loop-from.invariant.3) in
+    omega (arith, c.requires.names_room.0.scratch_room, c.loop-from.invariant.3) in
     list-fits
 
 pub slice_bounds-build_left-end-in-loop-from-2 : goal.slice_bounds-build_left-end-in-loop-from-2
 slice_bounds-build_left-end-in-loop-from-2 c =
     let list-fits : c.args.n ≤ length c.loop-from.scratch =
-        omega (arith, c.requires.names_room.0.scratch_room, c.loop-from.invariant.3) in
+    omega (arith, c.requires.names_room.0.scratch_room, c.loop-from.invariant.3) in
     sym (length-take-le _ _ (list-fits))
 
 pub build_left-count-requires : goal.build_left-count-requires
 build_left-count-requires c =
     let list-fits : c.args.n ≤ length c.loop-from.scratch =
-        omega (arith, c.requires.names_room.0.scratch_room, c.loop-from.invariant.3) in
-    
+    omega (arith, c.requires.names_room.0.scratch_room, c.loop-from.invariant.3) in
     let room = c.requires.names_room.0 in
     let v = c.loop-from.invariant in
     let ok = c.requires.names_turning.turning.fits.passed in
@@ -84,7 +80,6 @@ bounds-matched-from c = c.loop-from-test.true
 pub slice_bounds-convert_set-end : goal.slice_bounds-convert_set-end
 slice_bounds-convert_set-end c =
     let count_small : c.build_left-count.result ≤ c.args.n =
-        
     let v = c.loop-from.invariant in
     omega (
       arith,
@@ -92,14 +87,12 @@ slice_bounds-convert_set-end c =
       c.requires.names_room.0.modules,
     ) in
     let count_fits : c.build_left-count.result ≤ length ((c.build_left-count.new.set)) =
-        
     omega (arith, count_small, c.requires.names_room.0.set_room, c.loop-from.invariant.2, c.build_left-count.auto.set) in
     count_fits
 
 pub slice_bounds-convert_set-end-in-loop-from : goal.slice_bounds-convert_set-end-in-loop-from
 slice_bounds-convert_set-end-in-loop-from c =
     let count_small : c.build_left-count.result ≤ c.args.n =
-        
     let v = c.loop-from.invariant in
     omega (
       arith,
@@ -107,7 +100,6 @@ slice_bounds-convert_set-end-in-loop-from c =
       c.requires.names_room.0.modules,
     ) in
     let count_fits : c.build_left-count.result ≤ length ((c.build_left-count.new.set)) =
-        
     omega (arith, count_small, c.requires.names_room.0.set_room, c.loop-from.invariant.2, c.build_left-count.auto.set) in
     sym (length-take-le _ _ (count_fits))
 
@@ -126,7 +118,6 @@ overflow_add-at c =
 pub convert_set-made-requires : goal.convert_set-made-requires
 convert_set-made-requires c =
     let count_small : c.build_left-count.result ≤ c.args.n =
-        
     let v = c.loop-from.invariant in
     omega (
       arith,
@@ -134,15 +125,12 @@ convert_set-made-requires c =
       c.requires.names_room.0.modules,
     ) in
     let count_fits : c.build_left-count.result ≤ length ((c.build_left-count.new.set)) =
-        
     omega (arith, count_small, c.requires.names_room.0.set_room, c.loop-from.invariant.2, c.build_left-count.auto.set) in
     let scratch-back : length ((c.build_left-count.new.queue) ++ drop c.args.n c.loop-from.scratch) ≡ length c.args.scratch.now =
-        
     length_front c.loop-from.scratch ((c.build_left-count.new.queue)) c.args.n c.build_left-count.auto.queue ∙ c.loop-from.invariant.3 in
-    
     let room = c.requires.names_room.0 in
     let v = c.loop-from.invariant in
-    let count = length-take-le c.build_left-count.result ((c.build_left-count.new.set)) (count_fits) in record { set_offered = set_offered c.requires.names_turning v.0 c.run_end-to.ensures c.can_close-closing.result c.can_close-closing.ensures v.5 c.build_left-count.ensures.set_built; set_len_bound = (omega (arith, count_small, count), room.few, omega (arith, room.scratch_room, scratch-back)); }
+    let count = length-take-le c.build_left-count.result ((c.build_left-count.new.set)) (count_fits) in record { set_offered = set_offered c.requires.names_turning v.0 c.run_end-to.ensures c.can_close-closing.result c.can_close-closing.ensures v.5 c.build_left-count.ensures.set_built; set_len_bound = (omega (arith, count_small, count), room.few, omega (arith, room.scratch_room, scratch-back)) }
 
 pub overflow_add-made : goal.overflow_add-made
 overflow_add-made c =
@@ -156,7 +144,6 @@ overflow_add-made c =
 pub slice_bounds-close_set-end : goal.slice_bounds-close_set-end
 slice_bounds-close_set-end c =
     let count_small : c.build_left-count.result ≤ c.args.n =
-        
     let v = c.loop-from.invariant in
     omega (
       arith,
@@ -164,14 +151,12 @@ slice_bounds-close_set-end c =
       c.requires.names_room.0.modules,
     ) in
     let count_fits : c.build_left-count.result ≤ length ((c.build_left-count.new.set)) =
-        
     omega (arith, count_small, c.requires.names_room.0.set_room, c.loop-from.invariant.2, c.build_left-count.auto.set) in
     count_fits
 
 pub slice_bounds-close_set-end-in-loop-from : goal.slice_bounds-close_set-end-in-loop-from
 slice_bounds-close_set-end-in-loop-from c =
     let count_small : c.build_left-count.result ≤ c.args.n =
-        
     let v = c.loop-from.invariant in
     omega (
       arith,
@@ -179,7 +164,6 @@ slice_bounds-close_set-end-in-loop-from c =
       c.requires.names_room.0.modules,
     ) in
     let count_fits : c.build_left-count.result ≤ length ((c.build_left-count.new.set)) =
-        
     omega (arith, count_small, c.requires.names_room.0.set_room, c.loop-from.invariant.2, c.build_left-count.auto.set) in
     sym (length-take-le _ _ (count_fits))
 
@@ -213,7 +197,7 @@ shape_of-closed c = c.loop-from.invariant.5.bytes ∙ sym c.requires.names_room.
 pub shape_of-marks : goal.shape_of-marks
 shape_of-marks c =
     let marks-kept : length c.loop-from.marks ≡ length c.args.marks.now =
-        let room = c.requires.names_room.0 in
+    let room = c.requires.names_room.0 in
     ap length c.loop-from.invariant.1 ∙ length-replicate (length c.args.flags.now) 0 ∙ room.modules ∙ sym room.mark_bytes in
     marks-kept
 
@@ -247,22 +231,20 @@ shape_of-mark_of c = c.loop-from.invariant.0.lengths.mark_of
 pub returns : goal.returns
 returns c =
     let marks-kept : length c.loop-from.marks ≡ length c.args.marks.now =
-        let room = c.requires.names_room.0 in
+    let room = c.requires.names_room.0 in
     ap length c.loop-from.invariant.1 ∙ length-replicate (length c.args.flags.now) 0 ∙ room.modules ∙ sym room.mark_bytes in
-    let v = c.loop-from.invariant in record { names_turned = names_turned v.0 c.loop-from-test.false; marks_len_unchanged = (marks-kept, v.2, v.3, v.4, v.5); }
+    let v = c.loop-from.invariant in record { names_turned = names_turned v.0 c.loop-from-test.false; marks_len_unchanged = (marks-kept, v.2, v.3, v.4, v.5) }
 
 pub loop-from-preserved : goal.loop-from-preserved
 loop-from-preserved c =
     let scratch-back : length ((c.build_left-count.new.queue) ++ drop c.args.n c.loop-from.scratch) ≡ length c.args.scratch.now =
-        
     length_front c.loop-from.scratch ((c.build_left-count.new.queue)) c.args.n c.build_left-count.auto.queue ∙ c.loop-from.invariant.3 in
-    
     let v = c.loop-from.invariant in
     let b = c.build_left-count in
     let same = c.convert_set-made.auto in
     let long = live_bytes c.args.flags.now c.loop-from.closed c.can_close-closing.result v.5.bytes in (
       names_next c.requires.names_turning v.0 c.run_end-to.ensures c.can_close-closing.result c.can_close-closing.ensures v.5 b.ensures.set_built c.convert_set-made.ensures.set_taken
-          (record { chunk_of = same.chunk_of; group_of = same.group_of; name_of = same.name_of; size_of = same.size_of; bits_of = same.bits_of; mark_of = same.mark_of; }),
+          (record { chunk_of = same.chunk_of; group_of = same.group_of; name_of = same.name_of; size_of = same.size_of; bits_of = same.bits_of; mark_of = same.mark_of }),
       b.ensures.marks_after.0 ∙ ap (λ (c : ℕ). replicate c 0) long,
       b.auto.set ∙ v.2,
       c.convert_set-made.ensures.scratch_len_unchanged ∙ scratch-back,
@@ -270,4 +252,3 @@ loop-from-preserved c =
       closed_as c.close_set.ensures
           (closed_then c.requires.names_turning v.0 c.run_end-to.ensures c.can_close-closing.result c.can_close-closing.ensures v.5 b.ensures.set_built c.convert_set-made.ensures.set_taken),
     )
-

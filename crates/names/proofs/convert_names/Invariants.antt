@@ -1,20 +1,11 @@
 -- `names::convert_names` meets its contract. The loop's invariant: the names before the run at `from` have had their turns, nothing is
 -- marked, and what walks pass over is closed.
-use Prim.Native.Nat.{ℕ, ◌-◌, ◌≤◌}
-use mathlib.Core.List.{List, ◌++◌}
-use mathlib.Core.Path.{◌≡◌, refl, sym, ap, ◌∙◌}
-use native.Mathlib.Omega.{arith}
-use borrow.Author.Rules.{rules}
-use lib.ListN.{length, take, drop, replicate, length-replicate}
-use lib.Seq.{length-take-le, length_front}
+use Prim.Native.Nat.{◌-◌}
+use mathlib.Core.Path.{◌≡◌}
+use lib.ListN.{length, replicate}
 use Rattle.forget.specs.Unfollowed.{unfollowed}
-use Rattle.walk.proofs.Trail.{unfollowed_bytes}
 use Rattle.closed.specs.Closed.{Closed}
-use Rattle.matching.proofs.KeysTogether.{keys_together}
-use Rattle.closed.proofs.ClosedSets.{live_bytes, closed_as}
-use Rattle.names.proofs.SetOfRun.{names_ascend, run_is, set_ready}
-use Rattle.names.proofs.NameSteps.{NamesDone, names_start, number_now, place_now, count_in, number_next, names_next, names_turned}
-use Rattle.names.proofs.NameSteps.{set_entries, set_flags, set_offered, closed_then}
+use Rattle.names.proofs.NameSteps.{NamesDone}
 use Rattle.names.proofs.convert_names.Given as goal
 
 abbrev pub invariant-loop-from : goal.invariant-loop-from

@@ -4,7 +4,6 @@ use mathlib.Core.Path.{sym}
 use native.Mathlib.Omega.{arith}
 use lib.ListN.{length}
 use lib.Seq.{length-take-le}
-use borrow.Author.Rules.{rules}
 use Rattle.pieces.proofs.emit_oversized.Goals as goal
 
 pub slice_bounds-emit_pieces-end : goal.slice_bounds-emit_pieces-end
@@ -19,7 +18,7 @@ slice_bounds-emit_pieces-end-then-n-le256 c =
 
 pub emit_pieces-requires : goal.emit_pieces-requires
 emit_pieces-requires c =
-    let h : length c.args.order.now ≤ 256 = omega arith in record { pieces_ready = c.requires; lent = record { similar_length = length-take-le _ _ h; sums_length = length-take-le _ _ h; starts_room = h; totals_room = h; marks_room = h }; }
+    let h : length c.args.order.now ≤ 256 = omega arith in record { pieces_ready = c.requires; lent = record { similar_length = length-take-le _ _ h; sums_length = length-take-le _ _ h; starts_room = h; totals_room = h; marks_room = h } }
 
 pub shape_of-chunk_of-then-n-le256 : goal.shape_of-chunk_of-then-n-le256
 shape_of-chunk_of-then-n-le256 c = c.emit_pieces.auto.chunk_of
@@ -49,7 +48,7 @@ slice_bounds-emit_pieces-end-3 c =
 
 pub emit_pieces-requires-2 : goal.emit_pieces-requires-2
 emit_pieces-requires-2 c =
-    let h = c.requires.pending.few in record { pieces_ready = c.requires; lent = record { similar_length = length-take-le _ _ h; sums_length = length-take-le _ _ h; starts_room = h; totals_room = h; marks_room = h }; }
+    let h = c.requires.pending.few in record { pieces_ready = c.requires; lent = record { similar_length = length-take-le _ _ h; sums_length = length-take-le _ _ h; starts_room = h; totals_room = h; marks_room = h } }
 
 pub shape_of-chunk_of : goal.shape_of-chunk_of
 shape_of-chunk_of c = c.emit_pieces-2.auto.chunk_of

@@ -1,5 +1,4 @@
 -- `conditions::areas::bad_area` meets its contract: its tests are those of the condition, joined from the left.
-use borrow.Author.Rules.{rules}
 use Rattle.conditions.proofs.JoinedTests.{areas}
 use Rattle.conditions.proofs.areas.bad_area.Goals as goal
 

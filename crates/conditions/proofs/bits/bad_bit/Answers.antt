@@ -1,6 +1,5 @@
 -- `conditions::bits::bad_bit` meets its contract: the first of the two tests that holds decides.
 use mathlib.Core.Path.{sym, ◌∙◌}
-use borrow.Author.Rules.{rules}
 use Rattle.grouping.specs.Conditions.{bad_bit}
 use Rattle.conditions.proofs.bits.bad_bit.Goals as goal
 

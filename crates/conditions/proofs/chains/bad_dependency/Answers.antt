@@ -1,5 +1,4 @@
 -- `conditions::chains::bad_dependency` meets its contract: the build hands in the records that are tested.
-use borrow.Author.Rules.{rules}
 use Rattle.grouping.specs.Conditions.{bad_dependency}
 use Rattle.conditions.proofs.chains.bad_dependency.Goals as goal
 

@@ -1,5 +1,4 @@
 -- `conditions::chains::bad_id` meets its contract: the build hands in the end and the offsets that are tested.
-use borrow.Author.Rules.{rules}
 use Rattle.grouping.specs.Conditions.{bad_id}
 use Rattle.conditions.proofs.chains.bad_id.Goals as goal
 

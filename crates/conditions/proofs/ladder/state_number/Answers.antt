@@ -1,6 +1,5 @@
 -- `conditions::ladder::state_number` meets its contract: the first condition that applies gives the number.
 use mathlib.Core.Path.{sym, ◌∙◌}
-use borrow.Author.Rules.{rules}
 use Rattle.refusal.proofs.Ladder.{none_applies, applies, passes, number, no_number}
 use Rattle.grouping.specs.Conditions.{state_tests}
 use Rattle.conditions.proofs.ladder.state_number.Goals as goal

@@ -1,6 +1,5 @@
 -- `conditions::ladder::tree_number` meets its contract: the first condition that applies gives the number.
 use mathlib.Core.Path.{sym, ◌∙◌}
-use borrow.Author.Rules.{rules}
 use Rattle.refusal.proofs.Ladder.{none_applies, applies, passes, number, no_number}
 use Rattle.conditions.specs.Ladder.{tree_tests}
 use Rattle.conditions.proofs.ladder.tree_number.Goals as goal

@@ -1,6 +1,5 @@
 -- `conditions::ladder::value_number` meets its contract: the first condition that applies gives the number.
 use mathlib.Core.Path.{sym, ◌∙◌}
-use borrow.Author.Rules.{rules}
 use Rattle.refusal.proofs.Ladder.{none_applies, applies, passes, number, no_number}
 use Rattle.conditions.specs.Ladder.{value_tests}
 use Rattle.conditions.proofs.ladder.value_number.Goals as goal

@@ -1,5 +1,4 @@
 -- `conditions::lengths::bad_module_table` meets its contract: its tests are those of the condition, joined from the left.
-use borrow.Author.Rules.{rules}
 use Rattle.conditions.proofs.JoinedTests.{module_tables}
 use Rattle.conditions.proofs.lengths.bad_module_table.Goals as goal
 

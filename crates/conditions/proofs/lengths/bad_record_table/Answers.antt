@@ -1,5 +1,4 @@
 -- `conditions::lengths::bad_record_table` meets its contract: its tests are those of the condition, joined from the left.
-use borrow.Author.Rules.{rules}
 use Rattle.conditions.proofs.JoinedTests.{record_tables}
 use Rattle.conditions.proofs.lengths.bad_record_table.Goals as goal
 

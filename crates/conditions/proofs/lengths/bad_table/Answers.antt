@@ -1,5 +1,4 @@
 -- `conditions::lengths::bad_table` meets its contract: the four parts of the condition, joined from the left.
-use borrow.Author.Rules.{rules}
 use Rattle.conditions.proofs.JoinedTests.{tables}
 use Rattle.conditions.proofs.lengths.bad_table.Goals as goal
 

@@ -1,6 +1,5 @@
 -- `conditions::limits::bad_limit` meets its contract: the global options decide first, then the groups.
 use mathlib.Core.Path.{sym, ◌∙◌}
-use borrow.Author.Rules.{rules}
 use Rattle.grouping.specs.Conditions.{bad_limit}
 use Rattle.conditions.proofs.limits.bad_limit.Goals as goal
 

@@ -1,12 +1,9 @@
 -- `conditions::limits::nan_among_groups` meets its contract. The loop's invariant: no group passed has a NaN.
-use Prim.Native.Nat.{ℕ, ◌-◌, ◌≤◌, ◌<◌}
-use mathlib.Core.Path.{◌≡◌, sym, ap, ◌∙◌}
-use mathlib.Core.Bool.{false}
+use Prim.Native.Nat.{◌<◌}
+use mathlib.Core.Path.{sym, ap, ◌∙◌}
 use native.Mathlib.Nat.{not-suc-le-zero}
 use native.Mathlib.Omega.{arith}
 use borrow.Author.Count.{below_more}
-use borrow.Author.Rules.{rules}
-use Rattle.options.specs.Tables.{group_at}
 use Rattle.options.specs.Nan.{nan_group}
 use Rattle.lists.proofs.Below.{any_none, any_some}
 use Rattle.conditions.proofs.limits.nan_among_groups.Goals as goal

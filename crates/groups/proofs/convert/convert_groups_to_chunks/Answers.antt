@@ -1,18 +1,16 @@
 -- `groups::convert::convert_groups_to_chunks` meets its contract: one group more a turn, and what walks pass over is closed.
-use Prim.Native.Nat.{ℕ, ◌-◌, ◌≤◌}
+use Prim.Native.Nat.{ℕ, ◌≤◌}
 use mathlib.Core.Path.{◌≡◌, refl, sym, ap, ◌∙◌}
 use native.Mathlib.Omega.{arith}
-use borrow.Author.Rules.{rules}
 use lib.ListN.{length, take, drop, replicate, length-replicate}
 use lib.Seq.{length-take-le, length_front, take_at}
 use Rattle.lists.proofs.Stored.{zeros}
 use Rattle.forget.specs.Unfollowed.{unfollowed}
 use Rattle.walk.proofs.Trail.{unfollowed_bytes}
-use Rattle.emitting.proofs.Chunk.{SameLengths, same_lengths}
-use Rattle.closed.specs.Closed.{Closed}
+use Rattle.emitting.proofs.Chunk.{same_lengths}
 use Rattle.closed.proofs.ClosedSets.{closed_none, closed_as}
 use Rattle.names.proofs.OrderOf.{places_free}
-use Rattle.groups.proofs.Turning.{TurnsTo, none_turned, next_turning, one_turned, all_turned, number_small, record_in}
+use Rattle.groups.proofs.Turning.{none_turned, next_turning, one_turned, all_turned, number_small, record_in}
 use Rattle.groups.proofs.Turning.{given_few, given_flags, order_few, group_small, row_small, row_within}
 use Rattle.groups.proofs.convert.convert_groups_to_chunks.Goals as goal
 
@@ -116,10 +114,10 @@ overflow_add-at c =
 pub slice_bounds-closed-end-in-loop-i : goal.slice_bounds-closed-end-in-loop-i
 slice_bounds-closed-end-in-loop-i c =
     omega (
-  arith,
-  given_few c.requires.groups_turning,
-  c.loop-i.invariant.7,
-)
+      arith,
+      given_few c.requires.groups_turning,
+      c.loop-i.invariant.7,
+    )
 
 pub slice_bounds-convert_group-end-in-loop-i-2 : goal.slice_bounds-convert_group-end-in-loop-i-2
 slice_bounds-convert_group-end-in-loop-i-2 c =
@@ -148,7 +146,9 @@ pub convert_group-made-requires : goal.convert_group-made-requires
 convert_group-made-requires c =
     let p = c.requires.groups_turning in
     let l = c.loop-i in
-    let placed = c.store_places in record { group_turning = next_turning l.invariant.0 p _ c.loop-i-test.true; names_room = (
+    let placed = c.store_places in record {
+      group_turning = next_turning l.invariant.0 p _ c.loop-i-test.true;
+      names_room = (
         record {
           few = given_few p;
           modules = given_flags p;
@@ -161,7 +161,8 @@ convert_group-made-requires c =
         },
         omega (arith, order_few p, l.invariant.5),
         l.invariant.8,
-      ); }
+      );
+    }
 
 pub overflow_add-made : goal.overflow_add-made
 overflow_add-made c =
@@ -228,4 +229,4 @@ shape_of-mark_of c = c.loop-i.invariant.1.mark_of
 
 pub returns : goal.returns
 returns c =
-    let l = c.loop-i in record { groups_turned = all_turned l.invariant.0 c.loop-i-test.false; scratch_len_unchanged = l.invariant.2; }
+    let l = c.loop-i in record { groups_turned = all_turned l.invariant.0 c.loop-i-test.false; scratch_len_unchanged = l.invariant.2 }

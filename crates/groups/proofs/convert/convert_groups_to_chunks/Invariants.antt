@@ -1,19 +1,11 @@
 -- `groups::convert::convert_groups_to_chunks` meets its contract: one group more a turn, and what walks pass over is closed.
-use Prim.Native.Nat.{ℕ, ◌-◌, ◌≤◌}
-use mathlib.Core.Path.{◌≡◌, refl, sym, ap, ◌∙◌}
-use native.Mathlib.Omega.{arith}
-use borrow.Author.Rules.{rules}
-use lib.ListN.{length, take, drop, replicate, length-replicate}
-use lib.Seq.{length-take-le, length_front, take_at}
-use Rattle.lists.proofs.Stored.{zeros}
+use Prim.Native.Nat.{◌-◌}
+use mathlib.Core.Path.{◌≡◌}
+use lib.ListN.{length, take}
 use Rattle.forget.specs.Unfollowed.{unfollowed}
-use Rattle.walk.proofs.Trail.{unfollowed_bytes}
-use Rattle.emitting.proofs.Chunk.{SameLengths, same_lengths}
+use Rattle.emitting.proofs.Chunk.{SameLengths}
 use Rattle.closed.specs.Closed.{Closed}
-use Rattle.closed.proofs.ClosedSets.{closed_none, closed_as}
-use Rattle.names.proofs.OrderOf.{places_free}
-use Rattle.groups.proofs.Turning.{TurnsTo, none_turned, next_turning, one_turned, all_turned, number_small, record_in}
-use Rattle.groups.proofs.Turning.{given_few, given_flags, order_few, group_small, row_small, row_within}
+use Rattle.groups.proofs.Turning.{TurnsTo}
 use Rattle.groups.proofs.convert.convert_groups_to_chunks.Given as goal
 
 abbrev pub invariant-loop-i : goal.invariant-loop-i

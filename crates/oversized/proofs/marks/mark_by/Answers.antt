@@ -1,11 +1,8 @@
 -- `oversized::marks::mark_by` meets its contract: each arm is a case of the definition.
 use mathlib.Core.Path.{sym, ap}
-use borrow.Author.Tests.{not-true, not-false}
-use lib.Ieee.{lt}
 use Rattle.cut.specs.Call.{chosen_of}
 use Rattle.cut.specs.declared.Cut.{Cut}
 use Rattle.settling.specs.Pieces.{why_whole}
-use borrow.Author.Rules.{rules}
 use Rattle.oversized.proofs.marks.mark_by.Goals as goal
 
 pub returns-then-not-maximum-size : goal.returns-then-not-maximum-size

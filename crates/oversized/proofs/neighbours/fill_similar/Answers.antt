@@ -1,11 +1,9 @@
 -- `oversized::neighbours::fill_similar` meets its contract. The loop's invariant: the entries below i, but the first, are filled.
-use Prim.Native.Nat.{ℕ, ◌-◌, ◌≤◌}
-use mathlib.Core.Path.{◌≡◌}
+use Prim.Native.Nat.{ℕ, ◌-◌}
 use native.Mathlib.Omega.{arith}
-use borrow.Author.Rules.{rules}
-use lib.ListN.{length, get_or, length-set}
+use lib.ListN.{get_or, length-set}
 use Rattle.cut.specs.Order.{alike}
-use Rattle.oversized.proofs.Filled.{Filled, one_filled}
+use Rattle.oversized.proofs.Filled.{one_filled}
 use Rattle.oversized.proofs.neighbours.fill_similar.Goals as goal
 
 pub loop-i-init : goal.loop-i-init

@@ -1,11 +1,9 @@
 -- `oversized::neighbours::fill_similar` meets its contract. The loop's invariant: the entries below i, but the first, are filled.
-use Prim.Native.Nat.{ℕ, ◌-◌, ◌≤◌}
+use Prim.Native.Nat.{◌-◌, ◌≤◌}
 use mathlib.Core.Path.{◌≡◌}
-use native.Mathlib.Omega.{arith}
-use borrow.Author.Rules.{rules}
-use lib.ListN.{length, get_or, length-set}
+use lib.ListN.{length, get_or}
 use Rattle.cut.specs.Order.{alike}
-use Rattle.oversized.proofs.Filled.{Filled, one_filled}
+use Rattle.oversized.proofs.Filled.{Filled}
 use Rattle.oversized.proofs.neighbours.fill_similar.Given as goal
 
 abbrev pub invariant-loop-i : goal.invariant-loop-i

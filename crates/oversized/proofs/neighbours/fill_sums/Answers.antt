@@ -1,6 +1,6 @@
 -- `oversized::neighbours::fill_sums` meets its contract. The loop's invariant: the entries below i are filled, and the sum is that of the first i sizes.
-use Prim.Native.Nat.{◌-◌, ◌≤◌, ◌<◌}
-use mathlib.Core.Path.{◌≡◌, ap₂, ◌∙◌}
+use Prim.Native.Nat.{◌<◌}
+use mathlib.Core.Path.{ap₂, ◌∙◌}
 use native.Mathlib.Omega.{arith}
 use lib.Ieee.{nan, binary64, add}
 use lib.ListN.{length, take, length-set}
@@ -8,7 +8,7 @@ use Rattle.whole.specs.Double.{sum_f64}
 use Rattle.cut.specs.Order.{sizes_in}
 use Rattle.cut.proofs.InOrder.{length_sizes}
 use Rattle.cut.proofs.Totals.{no_size, size_more}
-use Rattle.oversized.proofs.Filled.{Filled, one_filled}
+use Rattle.oversized.proofs.Filled.{one_filled}
 use Rattle.oversized.proofs.neighbours.fill_sums.Goals as goal
 
 pub loop-i-init : goal.loop-i-init
@@ -16,7 +16,7 @@ loop-i-init c =
     (omega arith, c.requires.1, λ k from h. absurd (omega arith), no_size (sizes_in c.args.sizes.now c.args.order.now))
 
 pub size_at-sum-requires : goal.size_at-sum-requires
-size_at-sum-requires c = record { sized = c.requires.0; i_in_bounds = omega arith; }
+size_at-sum-requires c = record { sized = c.requires.0; i_in_bounds = omega arith }
 
 pub loop-i-preserved : goal.loop-i-preserved
 loop-i-preserved c =

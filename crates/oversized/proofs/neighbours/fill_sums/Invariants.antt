@@ -1,14 +1,11 @@
 -- `oversized::neighbours::fill_sums` meets its contract. The loop's invariant: the entries below i are filled, and the sum is that of the first i sizes.
-use Prim.Native.Nat.{◌-◌, ◌≤◌, ◌<◌}
-use mathlib.Core.Path.{◌≡◌, ap₂, ◌∙◌}
-use native.Mathlib.Omega.{arith}
-use lib.Ieee.{nan, binary64, add}
-use lib.ListN.{length, take, length-set}
+use Prim.Native.Nat.{◌-◌, ◌≤◌}
+use mathlib.Core.Path.{◌≡◌}
+use lib.Ieee.{nan}
+use lib.ListN.{length, take}
 use Rattle.whole.specs.Double.{sum_f64}
 use Rattle.cut.specs.Order.{sizes_in}
-use Rattle.cut.proofs.InOrder.{length_sizes}
-use Rattle.cut.proofs.Totals.{no_size, size_more}
-use Rattle.oversized.proofs.Filled.{Filled, one_filled}
+use Rattle.oversized.proofs.Filled.{Filled}
 use Rattle.oversized.proofs.neighbours.fill_sums.Given as goal
 
 abbrev pub invariant-loop-i : goal.invariant-loop-i

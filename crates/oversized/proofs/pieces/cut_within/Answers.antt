@@ -1,6 +1,5 @@
 -- `oversized::pieces::cut_within` meets its contract: each answer is a side of the test.
 use mathlib.Core.Path.{sym, ◌∙◌}
-use borrow.Author.Rules.{rules}
 use Rattle.oversized.proofs.pieces.cut_within.Goals as goal
 
 pub returns-then-maximum-total : goal.returns-then-maximum-total

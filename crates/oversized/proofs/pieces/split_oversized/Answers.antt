@@ -1,5 +1,4 @@
 -- `oversized::pieces::split_oversized` meets its contract: the tables that are filled are those of the modules.
-use borrow.Author.Rules.{rules}
 use Rattle.oversized.specs.Neighbours.{Neighbours}
 use Rattle.oversized.proofs.pieces.split_oversized.Goals as goal
 

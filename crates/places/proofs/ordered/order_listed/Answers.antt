@@ -7,7 +7,6 @@ use Rattle.exec_order.specs.ByOrder.{Modules}
 use Rattle.places.specs.Ordered.{answer_of}
 use Rattle.exec_order.proofs.Keeping.{kept_fits, kept_length}
 use Rattle.places.proofs.Handing.{listed_length, listed_modules, listed_in_order}
-use borrow.Author.Rules.{rules}
 use Rattle.places.proofs.ordered.order_listed.Goals as goal
 
 pub slice_bounds-put_by_order-end : goal.slice_bounds-put_by_order-end
@@ -18,11 +17,10 @@ pub slice_bounds-put_by_order-end-2 : goal.slice_bounds-put_by_order-end-2
 slice_bounds-put_by_order-end-2 c = kept_length c.list_modules-count.ensures
 
 pub put_by_order-requires : goal.put_by_order-requires
-put_by_order-requires c =
-    (
-      subst (λ (l : List ℕ). Modules c.args.orders.now l) (sym c.list_modules-count.ensures.first) (listed_modules c.args.flags.now c.requires),
-      omega (arith, kept_length c.list_modules-count.ensures, c.list_modules-count.ensures.count, listed_length c.args.flags.now, c.requires.few),
-    )
+put_by_order-requires c = (
+  subst (λ (l : List ℕ). Modules c.args.orders.now l) (sym c.list_modules-count.ensures.first) (listed_modules c.args.flags.now c.requires),
+  omega (arith, kept_length c.list_modules-count.ensures, c.list_modules-count.ensures.count, listed_length c.args.flags.now, c.requires.few),
+)
 
 pub returns-then-put_by_order : goal.returns-then-put_by_order
 unfolding answer_of

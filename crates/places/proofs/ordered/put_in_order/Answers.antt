@@ -1,6 +1,5 @@
 -- `places::ordered::put_in_order` meets its contract: refusal 4, and then refusal 5 or both orders.
 use Rattle.places.proofs.Handing.{refused_id, ids_apart}
-use borrow.Author.Rules.{rules}
 use Rattle.places.proofs.ordered.put_in_order.Goals as goal
 
 pub returns-then-rank_listed : goal.returns-then-rank_listed

@@ -1,8 +1,6 @@
 -- `ranks::by_id::fill_rank` meets its contract: one module a turn gets its position.
-use Prim.Native.Nat.{◌-◌}
 use native.Mathlib.Omega.{arith}
-use lib.ListN.{length}
-use Rattle.ranks.proofs.Ranking.{RanksTo, none_ranked, one_ranked, all_ranked}
+use Rattle.ranks.proofs.Ranking.{none_ranked, one_ranked, all_ranked}
 use Rattle.ranks.proofs.by_id.fill_rank.Goals as goal
 
 pub loop-i-init : goal.loop-i-init

@@ -1,8 +1,7 @@
 -- `ranks::by_id::rank_over` meets its contract: sorted by id, with ranks where no neighbours tie.
-use mathlib.Core.Bool.{true≢false, false}
+use mathlib.Core.Bool.{true≢false}
 use mathlib.Core.Path.{refl, sym, ◌∙◌}
 use Rattle.ranks.proofs.InIdOrder.{sorted_named, sorted_shares, sorted_ranks}
-use borrow.Author.Rules.{rules}
 use Rattle.ranks.proofs.by_id.rank_over.Goals as goal
 
 pub shares_id-requires : goal.shares_id-requires

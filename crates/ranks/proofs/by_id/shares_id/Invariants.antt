@@ -1,13 +1,10 @@
 -- `ranks::by_id::shares_id` meets its contract. The loop's invariant: no neighbours before i tie.
-use Prim.Native.Nat.{ℕ, ◌-◌, ◌≤◌}
-use mathlib.Core.Bool.{Bool, false}
-use mathlib.Core.Path.{◌≡◌, refl, sym, ap, ◌∙◌}
-use native.Mathlib.Numerals.{add-one}
-use native.Mathlib.Omega.{arith}
+use Prim.Native.Nat.{◌-◌, ◌≤◌}
+use mathlib.Core.Bool.{false}
+use mathlib.Core.Path.{◌≡◌}
 use lib.ListN.{length}
 use Rattle.lists.specs.Below.{any_below}
-use Rattle.lists.proofs.Below.{any_some}
-use Rattle.ranks.specs.ById.{tied_at, neighbours_tie}
+use Rattle.ranks.specs.ById.{tied_at}
 use Rattle.ranks.proofs.by_id.shares_id.Given as goal
 
 abbrev pub invariant-loop-i : goal.invariant-loop-i

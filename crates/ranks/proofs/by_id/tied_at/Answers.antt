@@ -6,7 +6,6 @@ use Rattle.lists.specs.Same.{same_numbers}
 use Rattle.orders.proofs.Naming.{place_in_table}
 use Rattle.ranks.specs.ById.{tied_at}
 use Rattle.ranks.proofs.SameIds.{compared_same}
-use borrow.Author.Rules.{rules}
 use Rattle.ranks.proofs.by_id.tied_at.Goals as goal
 
 pub id_at-lhs-requires : goal.id_at-lhs-requires

@@ -1,10 +1,10 @@
 -- `sets::built::store_starts` meets its contract: the module of one number more a turn.
-use Prim.Native.Nat.{◌-◌, ◌≤◌, ◌<◌}
+use Prim.Native.Nat.{◌<◌}
 use mathlib.Core.Path.{sym, ◌∙◌}
 use native.Mathlib.Omega.{arith}
-use lib.ListN.{length, get_or, take}
-use Rattle.matching.proofs.Writing.{Writing, none_written, one_written, map_take_more, all_written}
-use Rattle.sets.specs.Built.{start_at, starts_of}
+use lib.ListN.{length, get_or}
+use Rattle.matching.proofs.Writing.{none_written, one_written, map_take_more, all_written}
+use Rattle.sets.specs.Built.{start_at}
 use Rattle.sets.proofs.built.store_starts.Goals as goal
 
 pub loop-i-init : goal.loop-i-init

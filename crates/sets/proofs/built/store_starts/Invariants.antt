@@ -1,10 +1,8 @@
 -- `sets::built::store_starts` meets its contract: the module of one number more a turn.
-use Prim.Native.Nat.{◌-◌, ◌≤◌, ◌<◌}
-use mathlib.Core.Path.{sym, ◌∙◌}
-use native.Mathlib.Omega.{arith}
-use lib.ListN.{length, get_or, take}
-use Rattle.matching.proofs.Writing.{Writing, none_written, one_written, map_take_more, all_written}
-use Rattle.sets.specs.Built.{start_at, starts_of}
+use Prim.Native.Nat.{◌-◌, ◌≤◌}
+use lib.ListN.{length, take}
+use Rattle.matching.proofs.Writing.{Writing}
+use Rattle.sets.specs.Built.{starts_of}
 use Rattle.sets.proofs.built.store_starts.Given as goal
 
 abbrev pub invariant-loop-i : goal.invariant-loop-i

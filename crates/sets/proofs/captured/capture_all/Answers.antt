@@ -1,6 +1,5 @@
 -- `sets::captured::capture_all` meets its contract: with the starts visited it is a walk from what is marked.
 use Rattle.sets.proofs.Starts.{cleared_state, starts_state, starts_captured, starts_alone}
-use borrow.Author.Rules.{rules}
 use Rattle.sets.proofs.captured.capture_all.Goals as goal
 
 pub mark_starts-started-requires : goal.mark_starts-started-requires
@@ -19,10 +18,13 @@ walk-found-requires c =
 
 pub returns : goal.returns
 returns c =
-    let a = c.args in record { all_found = record {
+    let a = c.args in record {
+      all_found = record {
         captured = starts_captured a.flags.now a.queue.now _ _ c.requires.unmarked c.requires.room a.starts.now c.requires.starts_in
             c.mark_starts-started.ensures a.first.now a.dependency.now a.next.now _ c.walk-found.ensures.walked.marked;
         state = c.walk-found.ensures.walked.state;
         alone = starts_alone a.flags.now a.queue.now _ _ c.requires.unmarked c.requires.room a.starts.now c.requires.starts_in
             c.mark_starts-started.ensures a.first.now a.dependency.now a.next.now _ c.walk-found.ensures.walked.state c.walk-found.ensures.walked.marked;
-      }; followed_after = c.walk-found.ensures.followed_after; }
+      };
+      followed_after = c.walk-found.ensures.followed_after;
+    }

@@ -1,11 +1,9 @@
 -- `sets::captured::mark_starts` meets its contract: one start more is visited a turn.
-use Prim.Native.Nat.{◌-◌, ◌≤◌, ◌<◌}
-use mathlib.Core.List.{foldl}
-use mathlib.Core.Path.{◌≡◌, refl, sym, ◌∙◌}
+use Prim.Native.Nat.{◌<◌}
+use mathlib.Core.Path.{refl, sym, ◌∙◌}
 use native.Mathlib.Omega.{arith}
 use lib.ListN.{length, take}
 use Rattle.walk.specs.Visited.{Visited}
-use Rattle.walk.specs.Walk.{visited}
 use Rattle.sets.proofs.Starts.{some_visited, one_visited, all_visited}
 use Rattle.sets.proofs.captured.mark_starts.Goals as goal
 
@@ -33,7 +31,6 @@ shape_of-marks c =
     Visited s.flags.now (length s.flags.now) (take l.i s.starts.now)
     (record { marks = s.marks.now; queue = s.queue.now; tail = 0 })
     (record { marks = l.marks; queue = l.queue; tail = l.tail }) =
-        
     let l = c.loop-i in
     some_visited c.args.flags.now c.args.starts.now _ _ c.requires.state c.requires.starts_in l.i l.invariant.1 in
     let v = visits in
@@ -46,7 +43,6 @@ shape_of-queue c =
     Visited s.flags.now (length s.flags.now) (take l.i s.starts.now)
     (record { marks = s.marks.now; queue = s.queue.now; tail = 0 })
     (record { marks = l.marks; queue = l.queue; tail = l.tail }) =
-        
     let l = c.loop-i in
     some_visited c.args.flags.now c.args.starts.now _ _ c.requires.state c.requires.starts_in l.i l.invariant.1 in
     (visits).queue_length

@@ -1,12 +1,9 @@
 -- `sets::captured::mark_starts` meets its contract: one start more is visited a turn.
-use Prim.Native.Nat.{◌-◌, ◌≤◌, ◌<◌}
+use Prim.Native.Nat.{◌-◌, ◌≤◌}
 use mathlib.Core.List.{foldl}
-use mathlib.Core.Path.{◌≡◌, refl, sym, ◌∙◌}
-use native.Mathlib.Omega.{arith}
+use mathlib.Core.Path.{◌≡◌}
 use lib.ListN.{length, take}
-use Rattle.walk.specs.Visited.{Visited}
 use Rattle.walk.specs.Walk.{visited}
-use Rattle.sets.proofs.Starts.{some_visited, one_visited, all_visited}
 use Rattle.sets.proofs.captured.mark_starts.Given as goal
 
 abbrev pub invariant-loop-i : goal.invariant-loop-i

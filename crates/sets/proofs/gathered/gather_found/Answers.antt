@@ -5,7 +5,6 @@ use lib.ListN.{length}
 use lib.Seq.{length-take-le}
 use Rattle.sets.proofs.Leaving.{holds_part}
 use Rattle.sets.proofs.Marking.{none_marked}
-use borrow.Author.Rules.{rules}
 use Rattle.sets.proofs.gathered.gather_found.Goals as goal
 
 pub returns-then-list-eq0 : goal.returns-then-list-eq0

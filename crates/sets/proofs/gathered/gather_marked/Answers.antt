@@ -1,12 +1,10 @@
 -- `sets::gathered::gather_marked` meets its contract: one module more a turn, if it is marked, or a block more without any.
-use Prim.Native.Nat.{ℕ, ◌-◌, ◌/◌, ◌<◌}
+use Prim.Native.Nat.{ℕ, ◌/◌, ◌<◌}
 use mathlib.Core.Path.{◌≡◌, sym, ap, ◌∙◌}
-use mathlib.Core.Logic.{⊎_elim}
 use native.Mathlib.Omega.{arith}
 use mir.Facts.{Fits-32_64}
-use lib.ListN.{length, get_or, take}
-use Rattle.matching.proofs.Writing.{Writing, none_written, one_written, none_stored, none_until}
-use Rattle.sets.specs.Gathered.{marked_in}
+use lib.ListN.{length, get_or}
+use Rattle.matching.proofs.Writing.{none_written, one_written, none_stored, none_until}
 use Rattle.sets.proofs.Marking.{marked_none, marked_in_lem, marked_out, marked_all, marked_block}
 use Rattle.sets.proofs.gathered.gather_marked.Goals as goal
 use Rattle.sets.proofs.gathered.gather_marked.Goals.{else-marks-m-eq1, then-marks-m-eq1}
@@ -50,5 +48,7 @@ loop-i-preserved c =
     let r : l.i < length c.args.set.now = omega (arith, c.requires.room) in
     let o = c.args.order.now in
     let m = c.args.marks.now in
-    (elim c.if-marks-m-eq1.branch [ then-marks-m-eq1 w ↦ rw w.count-is (one_written l.invariant (get_or o l.i 0) (marked_in_lem m o l.i h w.if-marks-m-eq1.true) r)
-    | else-marks-m-eq1 w ↦ rw w.count-is (none_stored l.invariant (get_or o l.i 0) (marked_out m o l.i h w.if-marks-m-eq1.false)) ])
+    (elim c.if-marks-m-eq1.branch [
+      | then-marks-m-eq1 w ↦ rw w.count-is (one_written l.invariant (get_or o l.i 0) (marked_in_lem m o l.i h w.if-marks-m-eq1.true) r)
+      | else-marks-m-eq1 w ↦ rw w.count-is (none_stored l.invariant (get_or o l.i 0) (marked_out m o l.i h w.if-marks-m-eq1.false))
+    ])

@@ -1,13 +1,8 @@
 -- `sets::gathered::gather_marked` meets its contract: one module more a turn, if it is marked, or a block more without any.
-use Prim.Native.Nat.{ℕ, ◌-◌, ◌/◌, ◌<◌}
-use mathlib.Core.Path.{◌≡◌, sym, ap, ◌∙◌}
-use mathlib.Core.Logic.{⊎_elim}
-use native.Mathlib.Omega.{arith}
-use mir.Facts.{Fits-32_64}
-use lib.ListN.{length, get_or, take}
-use Rattle.matching.proofs.Writing.{Writing, none_written, one_written, none_stored, none_until}
+use Prim.Native.Nat.{◌-◌}
+use lib.ListN.{length, take}
+use Rattle.matching.proofs.Writing.{Writing}
 use Rattle.sets.specs.Gathered.{marked_in}
-use Rattle.sets.proofs.Marking.{marked_none, marked_in_lem, marked_out, marked_all, marked_block}
 use Rattle.sets.proofs.gathered.gather_marked.Given as goal
 
 abbrev pub invariant-loop-i : goal.invariant-loop-i

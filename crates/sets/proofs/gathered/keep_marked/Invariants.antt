@@ -1,10 +1,7 @@
 -- `sets::gathered::keep_marked` meets its contract: one module more a turn, which is left if it is marked.
-use Prim.Native.Nat.{◌-◌, ◌<◌}
-use mathlib.Core.Logic.{⊎_elim}
-use native.Mathlib.Omega.{arith}
-use mir.Facts.{Fits-32_64}
+use Prim.Native.Nat.{◌-◌}
 use lib.ListN.{length}
-use Rattle.sets.proofs.Leaving.{Leaving, none_left, same_at, all_left, one_left, one_gone}
+use Rattle.sets.proofs.Leaving.{Leaving}
 use Rattle.sets.proofs.gathered.keep_marked.Given as goal
 
 abbrev pub invariant-loop-i : goal.invariant-loop-i

@@ -1,12 +1,10 @@
 -- `sets::gathered::mark_blocks` meets its contract: the block of one module more a turn.
-use Prim.Native.Nat.{◌≤◌, ◌-◌}
 use mathlib.Core.List.{map}
-use mathlib.Core.Path.{◌≡◌, refl}
+use mathlib.Core.Path.{refl}
 use native.Mathlib.Omega.{arith}
 use mir.Facts.{Fits-32_64}
-use lib.ListN.{length, get_or, take, length-map, length-set}
+use lib.ListN.{get_or, length-map, length-set}
 use Rattle.lists.proofs.Map.{get_or_map_below}
-use Rattle.lists.specs.Stored.{stored}
 use Rattle.lists.proofs.Stored.{stored_none, stored_more, stored_all}
 use Rattle.sets.specs.Gathered.{block_of}
 use Rattle.sets.proofs.gathered.mark_blocks.Goals as goal

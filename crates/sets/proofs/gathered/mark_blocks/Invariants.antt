@@ -1,13 +1,9 @@
 -- `sets::gathered::mark_blocks` meets its contract: the block of one module more a turn.
 use Prim.Native.Nat.{◌≤◌, ◌-◌}
 use mathlib.Core.List.{map}
-use mathlib.Core.Path.{◌≡◌, refl}
-use native.Mathlib.Omega.{arith}
-use mir.Facts.{Fits-32_64}
-use lib.ListN.{length, get_or, take, length-map, length-set}
-use Rattle.lists.proofs.Map.{get_or_map_below}
+use mathlib.Core.Path.{◌≡◌}
+use lib.ListN.{length, take}
 use Rattle.lists.specs.Stored.{stored}
-use Rattle.lists.proofs.Stored.{stored_none, stored_more, stored_all}
 use Rattle.sets.specs.Gathered.{block_of}
 use Rattle.sets.proofs.gathered.mark_blocks.Given as goal
 

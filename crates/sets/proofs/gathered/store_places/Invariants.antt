@@ -1,9 +1,7 @@
 -- `sets::gathered::store_places` meets its contract: the place of one module more a turn.
 use Prim.Native.Nat.{◌-◌}
-use native.Mathlib.Omega.{arith}
-use mir.Facts.{Fits-32_64}
 use lib.ListN.{length}
-use Rattle.sets.proofs.Placing.{Placing, none_placed, module_in, one_placed, all_placed}
+use Rattle.sets.proofs.Placing.{Placing}
 use Rattle.sets.proofs.gathered.store_places.Given as goal
 
 abbrev pub invariant-loop-i : goal.invariant-loop-i

@@ -1,5 +1,5 @@
 -- `subgroups::kinds::bucket_of` meets its contract: a remainder of the words, mixed.
-use Rattle.std.proofs.Common.{ℕ, ◌%◌, ap, ◌∙◌, rules}
+use Rattle.std.proofs.Common.{ℕ, ◌%◌, ap, ◌∙◌}
 use Rattle.bitset.specs.Entries.{word_at}
 use Rattle.subgroups.specs.Buckets.{mixed_with, bucket_of}
 use Rattle.subgroups.proofs.kinds.bucket_of.Goals as goal

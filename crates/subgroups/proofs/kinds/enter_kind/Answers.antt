@@ -1,5 +1,5 @@
 -- The kind was found, or its row is stored after the others and the kind put first in its bucket.
-use Rattle.std.proofs.Common.{arith, rules}
+use Rattle.std.proofs.Common.{arith}
 use Rattle.subgroups.proofs.Chains.{bucket_below, kind_chained}
 use Rattle.subgroups.proofs.Entering.{kind_there, kind_added, row_fits}
 use Rattle.subgroups.proofs.kinds.enter_kind.Goals as goal
@@ -8,12 +8,11 @@ pub bucket_of-requires : goal.bucket_of-requires
 bucket_of-requires c = tt
 
 pub push_kind-requires : goal.push_kind-requires
-push_kind-requires c =
-    (
-      omega (arith, bucket_below c.args.bits, c.bucket_of.ensures, c.requires.2.heads_fit),
-      omega (arith, c.requires.2.chain_room),
-      c.requires.3,
-    )
+push_kind-requires c = (
+  omega (arith, bucket_below c.args.bits, c.bucket_of.ensures, c.requires.2.heads_fit),
+  omega (arith, c.requires.2.chain_room),
+  c.requires.3,
+)
 
 pub returns-then-kind-count : goal.returns-then-kind-count
 returns-then-kind-count c =
@@ -40,4 +39,3 @@ returns c =
           c.bucket_of.result c.bucket_of.ensures c.push_kind.new.heads c.push_kind.new.chain
           record { new_head = c.push_kind.ensures.new_head; new_link = c.push_kind.ensures.new_link },
     )
-

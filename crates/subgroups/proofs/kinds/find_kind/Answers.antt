@@ -11,13 +11,13 @@ bucket_of-bucket-requires c = tt
 pub offset_bounds-heads-bucket : goal.offset_bounds-heads-bucket
 offset_bounds-heads-bucket c =
     let in-heads : c.bucket_of-bucket.result < length c.args.heads.now =
-        omega (arith, bucket_below c.args.bits, c.bucket_of-bucket.ensures, c.requires.2.heads_fit) in
+    omega (arith, bucket_below c.args.bits, c.bucket_of-bucket.ensures, c.requires.2.heads_fit) in
     omega (arith, in-heads)
 
 pub bounds-heads-bucket : goal.bounds-heads-bucket
 bounds-heads-bucket c =
     let in-heads : c.bucket_of-bucket.result < length c.args.heads.now =
-        omega (arith, bucket_below c.args.bits, c.bucket_of-bucket.ensures, c.requires.2.heads_fit) in
+    omega (arith, bucket_below c.args.bits, c.bucket_of-bucket.ensures, c.requires.2.heads_fit) in
     in-heads
 
 pub overflow_cast-at : goal.overflow_cast-at
@@ -38,10 +38,9 @@ loop-at-init c =
 pub row-requires : goal.row-requires
 row-requires c =
     let here : Searching c.args.kind_bits.now c.args.count c.args.bits (suc ((c.loop-at.at - 1))) =
-        let e : c.loop-at.at ≡ suc ((c.loop-at.at - 1)) = omega (arith, c.loop-at-test.true) in
+    let e : c.loop-at.at ≡ suc ((c.loop-at.at - 1)) = omega (arith, c.loop-at-test.true) in
     subst (λ (n : ℕ). Searching c.args.kind_bits.now c.args.count c.args.bits n) e c.loop-at.invariant in
     let kind_below : (c.loop-at.at - 1) < c.args.count =
-        
     let a = c.args in
     kind_in a.kind_bits.now a.count a.heads.now a.chain.now c.requires.1 a.bits ((c.loop-at.at - 1)) (here) in
     omega (arith, kind_below, c.requires.0)
@@ -49,9 +48,8 @@ row-requires c =
 pub returns-then-same_bits : goal.returns-then-same_bits
 returns-then-same_bits c =
     let here : Searching c.args.kind_bits.now c.args.count c.args.bits (suc ((c.loop-at.at - 1))) =
-        let e : c.loop-at.at ≡ suc ((c.loop-at.at - 1)) = omega (arith, c.loop-at-test.true) in
+    let e : c.loop-at.at ≡ suc ((c.loop-at.at - 1)) = omega (arith, c.loop-at-test.true) in
     subst (λ (n : ℕ). Searching c.args.kind_bits.now c.args.count c.args.bits n) e c.loop-at.invariant in
-    
     let a = c.args in
     let same = ap (λ c. same_bits c a.bits) (sym c.row.ensures) ∙ sym c.same_bits.ensures ∙ c.if-same_bits.true in
     found_here a.kind_bits.now a.count a.heads.now a.chain.now c.requires.1 a.bits ((c.loop-at.at - 1)) (here) same
@@ -59,10 +57,9 @@ returns-then-same_bits c =
 pub offset_bounds-chain-kind : goal.offset_bounds-chain-kind
 offset_bounds-chain-kind c =
     let here : Searching c.args.kind_bits.now c.args.count c.args.bits (suc ((c.loop-at.at - 1))) =
-        let e : c.loop-at.at ≡ suc ((c.loop-at.at - 1)) = omega (arith, c.loop-at-test.true) in
+    let e : c.loop-at.at ≡ suc ((c.loop-at.at - 1)) = omega (arith, c.loop-at-test.true) in
     subst (λ (n : ℕ). Searching c.args.kind_bits.now c.args.count c.args.bits n) e c.loop-at.invariant in
     let kind_below : (c.loop-at.at - 1) < c.args.count =
-        
     let a = c.args in
     kind_in a.kind_bits.now a.count a.heads.now a.chain.now c.requires.1 a.bits ((c.loop-at.at - 1)) (here) in
     omega (arith, kind_below, c.requires.2.chain_room)
@@ -70,10 +67,9 @@ offset_bounds-chain-kind c =
 pub bounds-chain-kind : goal.bounds-chain-kind
 bounds-chain-kind c =
     let here : Searching c.args.kind_bits.now c.args.count c.args.bits (suc ((c.loop-at.at - 1))) =
-        let e : c.loop-at.at ≡ suc ((c.loop-at.at - 1)) = omega (arith, c.loop-at-test.true) in
+    let e : c.loop-at.at ≡ suc ((c.loop-at.at - 1)) = omega (arith, c.loop-at-test.true) in
     subst (λ (n : ℕ). Searching c.args.kind_bits.now c.args.count c.args.bits n) e c.loop-at.invariant in
     let kind_below : (c.loop-at.at - 1) < c.args.count =
-        
     let a = c.args in
     kind_in a.kind_bits.now a.count a.heads.now a.chain.now c.requires.1 a.bits ((c.loop-at.at - 1)) (here) in
     omega (arith, kind_below, c.requires.2.chain_room)
@@ -81,9 +77,8 @@ bounds-chain-kind c =
 pub loop-at-smaller : goal.loop-at-smaller
 loop-at-smaller c =
     let here : Searching c.args.kind_bits.now c.args.count c.args.bits (suc ((c.loop-at.at - 1))) =
-        let e : c.loop-at.at ≡ suc ((c.loop-at.at - 1)) = omega (arith, c.loop-at-test.true) in
+    let e : c.loop-at.at ≡ suc ((c.loop-at.at - 1)) = omega (arith, c.loop-at-test.true) in
     subst (λ (n : ℕ). Searching c.args.kind_bits.now c.args.count c.args.bits n) e c.loop-at.invariant in
-    
     let a = c.args in
     let falls = link_falls a.kind_bits.now a.count a.heads.now a.chain.now c.requires.1 a.bits ((c.loop-at.at - 1)) (here) in
     omega (arith, c.loop-at-test.true)
@@ -91,9 +86,8 @@ loop-at-smaller c =
 pub loop-at-preserved : goal.loop-at-preserved
 loop-at-preserved c =
     let here : Searching c.args.kind_bits.now c.args.count c.args.bits (suc ((c.loop-at.at - 1))) =
-        let e : c.loop-at.at ≡ suc ((c.loop-at.at - 1)) = omega (arith, c.loop-at-test.true) in
+    let e : c.loop-at.at ≡ suc ((c.loop-at.at - 1)) = omega (arith, c.loop-at-test.true) in
     subst (λ (n : ℕ). Searching c.args.kind_bits.now c.args.count c.args.bits n) e c.loop-at.invariant in
-    
     let a = c.args in
     let other = ap (λ c. same_bits c a.bits) (sym c.row.ensures) ∙ sym c.same_bits.ensures
     ∙ c.if-same_bits.false in
@@ -105,4 +99,3 @@ returns c =
     let end : c.loop-at.at ≡ 0 = omega (arith, c.loop-at-test.false) in
     found_nowhere a.kind_bits.now a.count a.heads.now a.chain.now c.requires.1 a.bits
     (subst (λ (n : ℕ). Searching a.kind_bits.now a.count a.bits n) end c.loop-at.invariant)
-

@@ -1,8 +1,6 @@
 -- `subgroups::kinds::find_kind` meets its contract. The invariant: no kind from `at` on has the bits, and what `at` leads to has their bucket. The
 -- measure is `at`: links fall.
-use Rattle.std.proofs.Common.{◌≡◌, ℕ, suc, ◌-◌, ◌<◌, length, get_or, sym, ap, ◌∙◌, subst, arith}
-use Rattle.grouping.specs.Subgroups.{same_bits}
-use Rattle.subgroups.proofs.Chains.{Searching, bucket_below, search_starts, kind_in, link_falls, search_goes_on, found_here, found_nowhere}
+use Rattle.subgroups.proofs.Chains.{Searching}
 use Rattle.subgroups.proofs.kinds.find_kind.Given as goal
 
 abbrev pub invariant-loop-at : goal.invariant-loop-at

@@ -1,7 +1,6 @@
 -- The invariant: the first i modules are counted, the kinds are on their chains, and the tables are as long as they were. The measure is the modules
 -- left.
-use Rattle.std.proofs.Common.{◌≡◌, ◌-◌, ◌<◌, ◌≤◌, length, take, sym, refl, ◌∙◌, subst₂, arith, length-set, length-take, length-take-le, take_all}
-use Rattle.subgroups.specs.Buckets.{bucket_count, Chained}
+use Rattle.std.proofs.Common.{◌≡◌, ◌<◌, ◌≤◌, length, take, sym, refl, ◌∙◌, subst₂, arith, length-set, length-take, length-take-le, take_all}
 use Rattle.subgroups.proofs.Counting.{Counted, none_counted}
 use Rattle.subgroups.proofs.Chains.{none_chained}
 use Rattle.subgroups.proofs.Turning.{bits_fit, size_fits, kind_small, next_counted}
@@ -34,7 +33,7 @@ row-requires c =
 pub enter_kind-found-requires : goal.enter_kind-found-requires
 enter_kind-found-requires c =
     let few : c.loop-i.count < length c.args.set.now =
-        omega (arith, c.loop-i.invariant.1.most, length-take-le c.loop-i.i c.args.set.now c.loop-i.invariant.0, c.loop-i-test.true) in
+    omega (arith, c.loop-i.invariant.1.most, length-take-le c.loop-i.i c.args.set.now c.loop-i.invariant.0, c.loop-i-test.true) in
     let a = c.args in
     let l = c.loop-i in (
       bits_fit a.bits.now a.sizes.now a.set.now c.requires.0 l.i l.count l.kind_of l.kind_sizes l.kind_bits l.invariant.1
@@ -48,7 +47,7 @@ enter_kind-found-requires c =
 pub overflow_cast-kind_of : goal.overflow_cast-kind_of
 overflow_cast-kind_of c =
     let sizes-long : length c.args.set.now ≤ length c.enter_kind-found.new.kind_sizes =
-        omega (arith, c.loop-i.invariant.3, c.requires.1.sizes, c.enter_kind-found.auto.kind_sizes) in
+    omega (arith, c.loop-i.invariant.3, c.requires.1.sizes, c.enter_kind-found.auto.kind_sizes) in
     let a = c.args in
     let l = c.loop-i in
     let e = c.enter_kind-found in
@@ -72,7 +71,7 @@ bounds-sizes-m c =
 pub add_to_kind-requires : goal.add_to_kind-requires
 add_to_kind-requires c =
     let sizes-long : length c.args.set.now ≤ length c.enter_kind-found.new.kind_sizes =
-        omega (arith, c.loop-i.invariant.3, c.requires.1.sizes, c.enter_kind-found.auto.kind_sizes) in
+    omega (arith, c.loop-i.invariant.3, c.requires.1.sizes, c.enter_kind-found.auto.kind_sizes) in
     let a = c.args in
     let l = c.loop-i in
     let e = c.enter_kind-found in
@@ -87,7 +86,7 @@ overflow_add-i c =
 pub loop-i-preserved : goal.loop-i-preserved
 loop-i-preserved c =
     let sizes-long : length c.args.set.now ≤ length c.enter_kind-found.new.kind_sizes =
-        omega (arith, c.loop-i.invariant.3, c.requires.1.sizes, c.enter_kind-found.auto.kind_sizes) in
+    omega (arith, c.loop-i.invariant.3, c.requires.1.sizes, c.enter_kind-found.auto.kind_sizes) in
     let a = c.args in
     let l = c.loop-i in
     let e = c.enter_kind-found in

@@ -1,11 +1,8 @@
 -- The invariant: the first i modules are counted, the kinds are on their chains, and the tables are as long as they were. The measure is the modules
 -- left.
-use Rattle.std.proofs.Common.{◌≡◌, ◌-◌, ◌<◌, ◌≤◌, length, take, sym, refl, ◌∙◌, subst₂, arith, length-set, length-take, length-take-le, take_all}
+use Rattle.std.proofs.Common.{◌≡◌, ◌-◌, ◌≤◌, length, take}
 use Rattle.subgroups.specs.Buckets.{bucket_count, Chained}
-use Rattle.subgroups.proofs.Counting.{Counted, none_counted}
-use Rattle.subgroups.proofs.Chains.{none_chained}
-use Rattle.subgroups.proofs.Turning.{bits_fit, size_fits, kind_small, next_counted}
-use Rattle.subgroups.proofs.Positions.{all_found}
+use Rattle.subgroups.proofs.Counting.{Counted}
 use Rattle.subgroups.proofs.kinds.find_kinds.Given as goal
 
 abbrev pub invariant-loop-i : goal.invariant-loop-i

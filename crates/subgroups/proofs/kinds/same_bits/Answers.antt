@@ -1,5 +1,5 @@
 -- Word by word: the first words that differ answer, and the last answer for themselves.
-use Rattle.std.proofs.Common.{rules, eq-eqb, ne_eqb}
+use Rattle.std.proofs.Common.{eq-eqb, ne_eqb}
 use Rattle.bitset.specs.Entries.{word_at}
 use Rattle.grouping.specs.Subgroups.{same_bits}
 use Rattle.subgroups.proofs.kinds.same_bits.Goals as goal

@@ -2,13 +2,10 @@
 use Prim.Native.Nat.{ℕ, ◌+◌, ◌-◌, ◌≤◌}
 use mathlib.Core.Bool.{Bool}
 use mathlib.Core.List.{List}
-use mathlib.Core.Path.{◌≡◌, refl, ap, ◌∙◌}
-use native.Mathlib.Numerals.{add-one}
-use native.Mathlib.Omega.{arith}
+use mathlib.Core.Path.{◌≡◌}
 use lib.ListN.{length, get_or}
 use lib.Dec.{leb}
 use Rattle.lists.specs.Below.{any_below}
-use Rattle.grouping.specs.Conditions.{bad_answer}
 use Rattle.sums.proofs.answers.bad_answer.Given as goal
 
 -- answer j is refused

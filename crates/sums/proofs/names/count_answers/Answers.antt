@@ -1,8 +1,6 @@
 -- `sums::names::count_answers` meets its contract. The loop's invariant: the first m answers are met and counted.
-use Prim.Native.Nat.{◌-◌, ◌≤◌}
 use native.Mathlib.Omega.{arith}
-use lib.ListN.{length}
-use Rattle.sums.proofs.MetNames.{Counting, counting_begins, counting_turns, counting_ends}
+use Rattle.sums.proofs.MetNames.{counting_begins, counting_turns, counting_ends}
 use Rattle.sums.proofs.names.count_answers.Goals as goal
 
 pub loop-m-init : goal.loop-m-init

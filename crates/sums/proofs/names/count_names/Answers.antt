@@ -2,7 +2,6 @@
 use Prim.Native.Nat.{◌+◌, ◌-◌}
 use mathlib.Core.Path.{◌≡◌}
 use native.Mathlib.Omega.{arith}
-use borrow.Author.Rules.{rules}
 use lib.ListN.{length}
 use Rattle.sums.specs.Names.{names_in}
 use Rattle.sums.proofs.MetNames.{with_unnamed, names_counted}
@@ -10,10 +9,9 @@ use Rattle.sums.proofs.names.count_names.Goals as goal
 
 pub overflow_sub-result : goal.overflow_sub-result
 overflow_sub-result c =
-    let parts : 
+    let parts :
     c.count_answers-all.result
     ≡ names_in c.args.row.now (length c.args.seen.now - 2) + (c.met-unnamed.result + c.met-unmatched.result) =
-        
     let a = c.count_answers-all in
     with_unnamed c.args.row.now c.args.seen.now c.args.mark c.requires.unnamed a.ensures c.met-unmatched.result c.met-unnamed.result
     c.met-unmatched.ensures c.met-unnamed.ensures in
@@ -21,10 +19,9 @@ overflow_sub-result c =
 
 pub overflow_sub-result-2 : goal.overflow_sub-result-2
 overflow_sub-result-2 c =
-    let parts : 
+    let parts :
     c.count_answers-all.result
     ≡ names_in c.args.row.now (length c.args.seen.now - 2) + (c.met-unnamed.result + c.met-unmatched.result) =
-        
     let a = c.count_answers-all in
     with_unnamed c.args.row.now c.args.seen.now c.args.mark c.requires.unnamed a.ensures c.met-unmatched.result c.met-unnamed.result
     c.met-unmatched.ensures c.met-unnamed.ensures in

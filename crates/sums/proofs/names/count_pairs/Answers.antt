@@ -3,7 +3,6 @@ use Prim.Native.Nat.{◌+◌}
 use mathlib.Core.Path.{sym}
 use native.Mathlib.Omega.{arith}
 use Rattle.sums.proofs.PairCount.{clear_length, clear_rows, pairs_counted}
-use borrow.Author.Rules.{rules}
 use Rattle.sums.proofs.names.count_pairs.Goals as goal
 
 pub slice_bounds-count_rows-end : goal.slice_bounds-count_rows-end

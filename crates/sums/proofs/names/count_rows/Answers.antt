@@ -1,18 +1,17 @@
 -- `sums::names::count_rows` meets its contract. The loop's invariant: the rows of the first i groups are counted.
-use Prim.Native.Nat.{◌-◌, ◌≤◌}
+use Prim.Native.Nat.{◌-◌}
 use mathlib.Core.Path.{◌≡◌}
 use native.Mathlib.Omega.{arith}
 use lib.ListN.{length}
 use Rattle.sums.proofs.RowCount.{row_bound, row_in, row_part}
-use Rattle.sums.proofs.RowCount.{Rows, rows_begin, rows_turn, row_ready}
+use Rattle.sums.proofs.RowCount.{rows_begin, rows_turn, row_ready}
 use Rattle.sums.proofs.names.count_rows.Goals as goal
 
 pub loop-i-init : goal.loop-i-init
-loop-i-init c =
-    (
-      omega arith,
-      rows_begin c.args.answers.now (length c.args.seen.now - 2) c.args.n c.args.seen.now (omega (arith, c.requires.unnamed)) c.requires.clear,
-    )
+loop-i-init c = (
+  omega arith,
+  rows_begin c.args.answers.now (length c.args.seen.now - 2) c.args.n c.args.seen.now (omega (arith, c.requires.unnamed)) c.requires.clear,
+)
 
 pub overflow_mul-start : goal.overflow_mul-start
 overflow_mul-start c =

@@ -1,10 +1,7 @@
 -- `sums::names::count_rows` meets its contract. The loop's invariant: the rows of the first i groups are counted.
 use Prim.Native.Nat.{◌-◌, ◌≤◌}
-use mathlib.Core.Path.{◌≡◌}
-use native.Mathlib.Omega.{arith}
 use lib.ListN.{length}
-use Rattle.sums.proofs.RowCount.{row_bound, row_in, row_part}
-use Rattle.sums.proofs.RowCount.{Rows, rows_begin, rows_turn, row_ready}
+use Rattle.sums.proofs.RowCount.{Rows}
 use Rattle.sums.proofs.names.count_rows.Given as goal
 
 abbrev pub invariant-loop-i : goal.invariant-loop-i

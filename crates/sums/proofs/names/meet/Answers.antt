@@ -1,6 +1,5 @@
 -- `sums::names::meet` meets its contract: an answer is marked, and was marked before or not.
 use mathlib.Core.Path.{refl}
-use borrow.Author.Rules.{rules}
 use borrow.Author.Tests.{eq-eqb, ne_eqb}
 use lib.ListN.{get_or}
 use Rattle.sums.proofs.names.meet.Goals as goal

@@ -1,5 +1,4 @@
 -- `sums::names::met` meets its contract: an answer is marked or not.
-use borrow.Author.Rules.{rules}
 use borrow.Author.Tests.{eq-eqb, ne_eqb}
 use lib.ListN.{get_or}
 use Rattle.sums.proofs.names.met.Goals as goal

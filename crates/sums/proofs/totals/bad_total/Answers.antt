@@ -1,13 +1,11 @@
 -- `sums::totals::bad_total` meets its contract. The loop's invariant: `total` is the sum over the modules passed, and at most 2^53.
-use Prim.Native.Nat.{◌+◌, ◌-◌, ◌≤◌}
-use mathlib.Core.Path.{◌≡◌, sym, ap, ap₂, ◌∙◌}
+use Prim.Native.Nat.{◌+◌}
+use mathlib.Core.Path.{sym, ap, ap₂, ◌∙◌}
 use native.Mathlib.Numerals.{add-one}
 use native.Mathlib.Omega.{arith}
-use borrow.Author.Rules.{rules}
-use lib.ListN.{length, get_or}
+use lib.ListN.{get_or}
 use Rattle.sums.proofs.KeptSums.{total_of, kept_none, kept_more, passes_total, within_total}
 use Rattle.flags.specs.Flags.{listed}
-use Rattle.whole.specs.Total.{total_limit}
 use Rattle.sums.proofs.totals.bad_total.Goals as goal
 
 pub loop-m-init : goal.loop-m-init

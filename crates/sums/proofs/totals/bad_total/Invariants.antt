@@ -1,12 +1,8 @@
 -- `sums::totals::bad_total` meets its contract. The loop's invariant: `total` is the sum over the modules passed, and at most 2^53.
-use Prim.Native.Nat.{◌+◌, ◌-◌, ◌≤◌}
-use mathlib.Core.Path.{◌≡◌, sym, ap, ap₂, ◌∙◌}
-use native.Mathlib.Numerals.{add-one}
-use native.Mathlib.Omega.{arith}
-use borrow.Author.Rules.{rules}
-use lib.ListN.{length, get_or}
-use Rattle.sums.proofs.KeptSums.{total_of, kept_none, kept_more, passes_total, within_total}
-use Rattle.flags.specs.Flags.{listed}
+use Prim.Native.Nat.{◌-◌, ◌≤◌}
+use mathlib.Core.Path.{◌≡◌}
+use lib.ListN.{length}
+use Rattle.sums.proofs.KeptSums.{total_of}
 use Rattle.whole.specs.Total.{total_limit}
 use Rattle.sums.proofs.totals.bad_total.Given as goal
 

@@ -1,6 +1,5 @@
 -- `sums::totals::listed_size` meets its contract: the definition computes at the bool that the branch tested.
 use mathlib.Core.Path.{sym, ◌∙◌}
-use borrow.Author.Rules.{rules}
 use Rattle.sums.proofs.totals.listed_size.Goals as goal
 
 pub returns-then-is_listed : goal.returns-then-is_listed

@@ -1,13 +1,10 @@
 -- `turns::settings::all_settings` meets its contract: one group's settings more a turn.
 use Prim.Native.Nat.{◌-◌, ◌≤◌}
-use mathlib.Core.Path.{◌≡◌, ap, ◌∙◌}
-use native.Mathlib.Omega.{arith}
-use lib.ListN.{length, length-set, length-replicate}
+use mathlib.Core.Path.{◌≡◌}
+use lib.ListN.{length}
 use Rattle.options.specs.Force.{settings_under}
 use Rattle.options.specs.Tables.{group_at}
 use Rattle.turns.specs.Order.{AreSettings}
-use Rattle.turns.proofs.SettingsTable.{settings_more}
-use borrow.Author.Rules.{rules}
 use Rattle.turns.proofs.settings.all_settings.Given as goal
 
 abbrev pub invariant-loop-i : goal.invariant-loop-i
