@@ -1,6 +1,5 @@
 -- `buildcases::cases::answer_all` is safe and ends. The measure is what is left of the text.
 use Prim.Native.Nat.{◌-◌}
-use borrow.Author.Rules.{rules}
 use lib.ListN.{length}
 use Rattle.buildcases.proofs.cases.answer_all.Given as goal
 

@@ -1,6 +1,5 @@
 -- `largesttables::fill::answers` is safe and ends. The measure is the number of answers that are left.
 use Prim.Native.Nat.{◌-◌}
-use borrow.Author.Rules.{rules}
 use Rattle.largesttables.proofs.fill.answers.Given as goal
 
 abbrev pub invariant-loop-i : goal.invariant-loop-i

@@ -1,6 +1,5 @@
 -- `largesttables::fill::groups` is safe and ends. The measure is the number of groups that are left.
 use Prim.Native.Nat.{◌-◌}
-use borrow.Author.Rules.{rules}
 use Rattle.largesttables.proofs.fill.groups.Given as goal
 
 abbrev pub invariant-loop-g : goal.invariant-loop-g

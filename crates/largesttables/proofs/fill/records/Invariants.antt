@@ -1,6 +1,5 @@
 -- `largesttables::fill::records` is safe and ends. The measure is the number of records that are left.
 use Prim.Native.Nat.{◌-◌}
-use borrow.Author.Rules.{rules}
 use Rattle.largesttables.proofs.fill.records.Given as goal
 
 abbrev pub invariant-loop-r : goal.invariant-loop-r

@@ -1,5 +1,5 @@
 -- `namecases::answers::show_name` is safe and ends. The measure is the number of bytes that are left.
-use Rattle.std.proofs.Common.{◌-◌, length, rules}
+use Rattle.std.proofs.Common.{◌-◌, length}
 use Rattle.namecases.proofs.answers.show_name.Given as goal
 
 abbrev pub invariant-loop-i : goal.invariant-loop-i

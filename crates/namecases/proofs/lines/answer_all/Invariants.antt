@@ -1,5 +1,5 @@
 -- `namecases::lines::answer_all` is safe and ends. The measure is what is left of the input.
-use Rattle.std.proofs.Common.{◌-◌, length, rules}
+use Rattle.std.proofs.Common.{◌-◌, length}
 use Rattle.namecases.proofs.lines.answer_all.Given as goal
 
 abbrev pub invariant-loop-at : goal.invariant-loop-at

@@ -1,6 +1,6 @@
 -- `namecases::tables::read` is safe and ends.
 -- The bytes that were read fit the area, which the invariant says. The measure is the number of names that are left.
-use Rattle.std.proofs.Common.{◌-◌, ◌≤◌, rules}
+use Rattle.std.proofs.Common.{◌-◌, ◌≤◌}
 use Rattle.namecases.proofs.tables.read.Given as goal
 
 abbrev pub invariant-loop-i : goal.invariant-loop-i

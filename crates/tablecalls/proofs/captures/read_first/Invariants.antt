@@ -1,5 +1,5 @@
 -- `tablecalls::captures::read_first` is safe and ends. The measure is the number of modules that are left.
-use Rattle.std.proofs.Common.{◌-◌, rules}
+use Rattle.std.proofs.Common.{◌-◌}
 use Rattle.tablecalls.proofs.captures.read_first.Given as goal
 
 abbrev pub invariant-loop-i : goal.invariant-loop-i

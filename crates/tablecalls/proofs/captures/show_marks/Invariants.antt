@@ -1,5 +1,5 @@
 -- `tablecalls::captures::show_marks` is safe and ends. The measure is the number of marks that are left.
-use Rattle.std.proofs.Common.{◌-◌, rules}
+use Rattle.std.proofs.Common.{◌-◌}
 use Rattle.tablecalls.proofs.captures.show_marks.Given as goal
 
 abbrev pub invariant-loop-i : goal.invariant-loop-i

@@ -1,5 +1,5 @@
 -- `tablecalls::merges::read_subgroups` is safe and ends. The measure is the number of subgroups that are left.
-use Rattle.std.proofs.Common.{◌-◌, rules}
+use Rattle.std.proofs.Common.{◌-◌}
 use Rattle.tablecalls.proofs.merges.read_subgroups.Given as goal
 
 abbrev pub invariant-loop-i : goal.invariant-loop-i

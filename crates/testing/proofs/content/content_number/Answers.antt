@@ -1,7 +1,6 @@
 -- `testing::content::content_number` meets its contract: 6 and 7, then 8, then 9 and 10.
 use mathlib.Core.Path.{◌≡◌, sym, ◌∙◌}
 use native.Mathlib.Omega.{arith}
-use borrow.Author.Rules.{rules}
 use Rattle.testing.proofs.ContentLadder.{tree_stops, limit_stops, values_last}
 use Rattle.testing.proofs.content.content_number.Goals as goal
 

@@ -1,7 +1,6 @@
 -- `testing::ordering::test_order` meets its contract: 4 and 5 by the answer of put_in_order, then 6 to 10 by their number.
 use mathlib.Core.Path.{◌≡◌, ◌∙◌}
 use native.Mathlib.Omega.{arith}
-use borrow.Author.Rules.{rules}
 use Rattle.testing.proofs.OrderLadder.{id_refused, order_refused, content_refused, content_passed}
 use Rattle.testing.proofs.ordering.test_order.Goals as goal
 

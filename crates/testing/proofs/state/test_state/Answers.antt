@@ -1,5 +1,4 @@
 -- `testing::state::test_state` meets its contract: P is counted, and the conditions of the state are tested with it.
-use borrow.Author.Rules.{rules}
 use Rattle.testing.proofs.StateLadder.{few_pairs, state_of_lem}
 use Rattle.testing.proofs.state.test_state.Goals as goal
 
