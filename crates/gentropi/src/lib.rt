@@ -5,6 +5,6 @@ pub mod captures;
 pub mod cuts;
 pub mod filters;
 pub mod merges;
-pub mod names;
+pub mod naming;
 pub mod similar;
 pub mod splits;

@@ -1,7 +1,7 @@
 // LENGTH NAME, or a refusal, and what is wrong with the lent area.
 use chunk_names::NameAnswer;
 use tablecalls::looks;
-use textform::{out, parts};
+use textform::{entries, out};
 
 fn wide(byte: u8) -> u64 {
     byte as u64
@@ -31,7 +31,7 @@ pub fn show(tag: &[u8], answer: NameAnswer, area: &[u8; 16500]) {
             out::blank();
             out::number(length as u64);
             out::blank();
-            show_name(parts::bytes(area, length));
+            show_name(entries::bytes(area, length));
             looks::bytes(tag, b"the area was written past the name", area, length);
         }
     }

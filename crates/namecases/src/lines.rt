@@ -1,5 +1,5 @@
 // The cases, one a line, each after the lines that spoil it.
-use crate::names;
+use crate::naming;
 use textform::words::Span;
 use textform::{out, words};
 use withlines::cases;
@@ -35,5 +35,5 @@ fn answered(line: &[u8], with: &[u8]) -> bool {
         return false;
     }
     let tag = words::word(line, first.to);
-    names::answered(words::part(line, tag), line, tag.to, with)
+    naming::answered(words::part(line, tag), line, tag.to, with)
 }

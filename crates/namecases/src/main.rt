@@ -7,7 +7,7 @@
 mod answers;
 mod chunk;
 mod lines;
-mod names;
+mod naming;
 mod spoiling;
 mod tables;
 
@@ -16,7 +16,7 @@ fn read_input(input: &mut [u8; 262144]) -> usize {
 }
 
 fn answer_input(input: &[u8; 262144], n: usize) {
-    lines::answer_all(textform::parts::bytes(input, n));
+    lines::answer_all(textform::entries::bytes(input, n));
 }
 
 fn main() {

@@ -4,7 +4,7 @@ ghost use Rattle.std.specs.Prelude.{◌<◌, ◌≤◌};
 use cut::{Cut, CutAnswer, CutPoint};
 use index::ModuleIdx;
 use textform::numbers::Field;
-use textform::{doubles, numbers, out, pairs, parts, words};
+use textform::{doubles, entries, numbers, out, pairs, words};
 
 // The id and the size of module m. The value is the place past the id's bytes, which is the next offset.
 fn read_module(
@@ -122,9 +122,9 @@ fn run(
 {
     let answer = cut::pick_relevance_split_index(
         withlines::count(with, b"n", n),
-        parts::bytes(ids, bytes),
-        parts::shorts(offsets, withlines::length(with, b"offsets", n + 1)),
-        parts::longs(sizes, withlines::length(with, b"sizes", n)),
+        entries::bytes(ids, bytes),
+        entries::shorts(offsets, withlines::length(with, b"offsets", n + 1)),
+        entries::longs(sizes, withlines::length(with, b"sizes", n)),
         minimum,
         maximum,
     );

@@ -14,7 +14,7 @@ fn read_input(input: &mut [u8; 1048576]) -> usize {
 }
 
 fn answer_input(input: &[u8; 1048576], n: usize) {
-    lines::answer_all(textform::parts::bytes(input, n));
+    lines::answer_all(textform::entries::bytes(input, n));
 }
 
 fn main() {

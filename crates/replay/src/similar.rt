@@ -1,6 +1,6 @@
 // sim TAG ID ID
 use similarity::Similarity;
-use textform::{out, pairs, parts, words};
+use textform::{entries, out, pairs, words};
 
 pub fn answered(tag: &[u8], line: &[u8]) -> bool {
     let mut left = [0u8; 16384];
@@ -17,7 +17,10 @@ pub fn answered(tag: &[u8], line: &[u8]) -> bool {
 
 // The call on the first bytes of two areas, and its answer.
 fn run(left: &[u8; 16384], a: usize, right: &[u8; 16384], b: usize) {
-    let answer = similarity::stable_id_similarity(parts::bytes(left, a), parts::bytes(right, b));
+    let answer = similarity::stable_id_similarity(
+        entries::bytes(left, a),
+        entries::bytes(right, b),
+    );
     match answer {
         Similarity::Refused(number) => out::refused(number),
         Similarity::Score(score) => {

@@ -5,7 +5,7 @@ use crate::looks;
 use capture::CaptureAnswer;
 use index::{ModuleIdx, RecordIdx};
 use listform::areas;
-use textform::{numbers, out, parts, words};
+use textform::{entries, numbers, out, words};
 
 // The flag bytes. Answers the place past the last word, as each reader here does.
 fn read_flags(line: &[u8], at: usize, n: usize, flags: &mut [u8; 4098]) -> usize
@@ -147,10 +147,10 @@ fn run(
         withlines::count(with, b"d", d),
         recursive,
         from,
-        parts::bytes(flags, withlines::length(with, b"flags", n)),
-        parts::shorts(first, withlines::length(with, b"first", n)),
-        parts::shorts(dependency, withlines::length(with, b"dep_module", records)),
-        parts::shorts(next, withlines::length(with, b"dep_next", records)),
+        entries::bytes(flags, withlines::length(with, b"flags", n)),
+        entries::shorts(first, withlines::length(with, b"first", n)),
+        entries::shorts(dependency, withlines::length(with, b"dep_module", records)),
+        entries::shorts(next, withlines::length(with, b"dep_next", records)),
         areas::lent_bytes(&mut marks, withlines::area(with, 0, spare)),
         areas::lent_numbers(&mut scratch, lent),
     );

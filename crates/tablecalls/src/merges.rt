@@ -5,7 +5,7 @@ use crate::looks;
 use limit::Limit;
 use listform::areas;
 use merge::MergeAnswer;
-use textform::{doubles, numbers, out, parts, words};
+use textform::{doubles, entries, numbers, out, words};
 
 // One of the words. Answers the place past it, as each reader here does.
 fn read_word(line: &[u8], at: usize, entry: usize, bits: &mut [u64; 16392]) -> usize
@@ -132,8 +132,8 @@ fn run(
     let answer = merge::merge_entries_aware_subgroups(
         count,
         withlines::count(with, b"e", entries),
-        parts::longs(sizes, withlines::length(with, b"sizes", k)),
-        parts::longs(bits, withlines::length(with, b"bits", 4 * k)),
+        entries::longs(sizes, withlines::length(with, b"sizes", k)),
+        entries::longs(bits, withlines::length(with, b"bits", 4 * k)),
         threshold,
         areas::lent_numbers(&mut final_numbers, lent(with, 0, k)),
         areas::lent_words(&mut final_sizes, lent(with, 1, k)),

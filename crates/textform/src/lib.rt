@@ -2,8 +2,8 @@
 #![tactic(auto)]
 
 pub mod doubles;
+pub mod entries;
 pub mod numbers;
 pub mod out;
 pub mod pairs;
-pub mod parts;
 pub mod words;

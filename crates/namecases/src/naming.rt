@@ -4,7 +4,7 @@ ghost use Rattle.std.specs.Prelude.{◌≤◌};
 use crate::chunk::Chunk;
 use crate::{answers, chunk, spoiling, tables};
 use listform::areas;
-use textform::{numbers, out, pairs, parts, words};
+use textform::{entries, numbers, out, pairs, words};
 
 // A case, whose words from K on begin at a place, and the lines before it that spoil it.
 pub fn answered(tag: &[u8], line: &[u8], at: usize, with: &[u8]) -> bool {
@@ -79,14 +79,14 @@ fn run(
     let answer = chunk_names::derive_entries_aware_chunk_name(
         withlines::count(with, b"k", k),
         withlines::count(with, b"e", e),
-        parts::bytes(group_names, group_bytes),
-        parts::shorts(group_offsets, spoiling::table(with, b"name_offsets", k)),
-        parts::bytes(entry_names, entry_bytes),
-        parts::shorts(entry_offsets, spoiling::table(with, b"entry_offsets", e)),
+        entries::bytes(group_names, group_bytes),
+        entries::shorts(group_offsets, spoiling::table(with, b"name_offsets", k)),
+        entries::bytes(entry_names, entry_bytes),
+        entries::shorts(entry_offsets, spoiling::table(with, b"entry_offsets", e)),
         chunk.number,
         chunk.entries_aware,
         bits,
-        parts::bytes(hash, hash_bytes),
+        entries::bytes(hash, hash_bytes),
         areas::lent_bytes(&mut area, spoiling::area(with, group_bytes)),
     );
     answers::show(tag, answer, &area);

@@ -1,8 +1,8 @@
--- `gentropi::names::gentropi_name` meets its contract: number and length are those of the callee's answer, and the area is as the callee left it.
+-- `gentropi::naming::gentropi_name` meets its contract: number and length are those of the callee's answer, and the area is as the callee left it.
 use mathlib.Core.Path.{ap}
 use Rattle.refusal.proofs.Calls.{exported, value_place}
 use Rattle.chunk_names.specs.Call.{outcome_of}
-use Rattle.gentropi.proofs.names.gentropi_name.Goals as goal
+use Rattle.gentropi.proofs.naming.gentropi_name.Goals as goal
 
 pub returns-in-Refused : goal.returns-in-Refused
 returns-in-Refused c =
