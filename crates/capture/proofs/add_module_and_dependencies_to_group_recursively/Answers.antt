@@ -5,11 +5,8 @@ use native.Mathlib.Omega.{arith}
 use borrow.Author.Tests.{lt-ltb, le-ltb, leb-false}
 use lib.ListN.{length}
 use lib.Seq.{length-take-le, length_front}
-use Rattle.capture.specs.Capture.{Given}
-use Rattle.capture.specs.Call.{Areas}
 use Rattle.capture.proofs.Ladder.{InputPassed, input_passed, refuses_input, refuses_12, refuses_13, answers}
 use Rattle.capture.proofs.Accepted.{start_ready, written}
-use borrow.Author.Rules.{rules}
 use Rattle.capture.proofs.add_module_and_dependencies_to_group_recursively.Goals as goal
 
 pub returns-then-number-ne0 : goal.returns-then-number-ne0
@@ -28,9 +25,8 @@ returns-then-number-ne0 c =
 pub returns-then-marks-n : goal.returns-then-marks-n
 returns-then-marks-n c =
     let passed : InputPassed c.args.n c.args.d c.args.from.0 c.args.flags.now c.args.first.now c.args.dependency.now c.args.next.now =
-        let s = c.args in
+    let s = c.args in
     input_passed s.n s.d s.from.0 s.flags.now s.first.now s.dependency.now s.next.now (sym c.if-number-ne0.false ∙ c.input_number-number.ensures) in
-    
     refuses_12 ((record {
       n = c.args.n;
       d = c.args.d;
@@ -45,9 +41,8 @@ returns-then-marks-n c =
 pub returns-then-scratch-n : goal.returns-then-scratch-n
 returns-then-scratch-n c =
     let passed : InputPassed c.args.n c.args.d c.args.from.0 c.args.flags.now c.args.first.now c.args.dependency.now c.args.next.now =
-        let s = c.args in
+    let s = c.args in
     input_passed s.n s.d s.from.0 s.flags.now s.first.now s.dependency.now s.next.now (sym c.if-number-ne0.false ∙ c.input_number-number.ensures) in
-    
     refuses_13 ((record {
       n = c.args.n;
       d = c.args.d;
@@ -65,9 +60,8 @@ slice_bounds-capture_from-end-2 c = sym (length-take-le c.args.n c.args.marks.no
 pub capture_from-requires : goal.capture_from-requires
 capture_from-requires c =
     let passed : InputPassed c.args.n c.args.d c.args.from.0 c.args.flags.now c.args.first.now c.args.dependency.now c.args.next.now =
-        let s = c.args in
+    let s = c.args in
     input_passed s.n s.d s.from.0 s.flags.now s.first.now s.dependency.now s.next.now (sym c.if-number-ne0.false ∙ c.input_number-number.ensures) in
-    
     let p = passed in
     let part = length-take-le c.args.n c.args.marks.now (omega arith) in
     start_ready ((record {
@@ -90,9 +84,8 @@ shape_of-scratch c = c.clear_words.auto.area ∙ c.capture_from.auto.queue
 pub returns : goal.returns
 returns c =
     let passed : InputPassed c.args.n c.args.d c.args.from.0 c.args.flags.now c.args.first.now c.args.dependency.now c.args.next.now =
-        let s = c.args in
+    let s = c.args in
     input_passed s.n s.d s.from.0 s.flags.now s.first.now s.dependency.now s.next.now (sym c.if-number-ne0.false ∙ c.input_number-number.ensures) in
-    
     let f = c.capture_from in
     let p = passed in
     answers ((record {

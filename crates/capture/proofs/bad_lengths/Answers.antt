@@ -2,7 +2,6 @@
 use Prim.Native.Nat.{◌+◌}
 use borrow.Author.Tests.{eq-eqb, ne_eqb}
 use lib.ListN.{length}
-use borrow.Author.Rules.{rules}
 use Rattle.capture.proofs.bad_lengths.Goals as goal
 
 pub returns-then-flags-n : goal.returns-then-flags-n

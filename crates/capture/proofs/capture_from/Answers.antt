@@ -2,7 +2,7 @@
 use Prim.Native.Nat.{ℕ, ◌-◌}
 use mathlib.Core.Bool.{Bool, false≢true}
 use mathlib.Core.List.{List}
-use mathlib.Core.Path.{◌≡◌, refl, sym, ap, ◌∙◌}
+use mathlib.Core.Path.{refl, sym, ap, ◌∙◌}
 use native.Mathlib.Omega.{arith}
 use lib.ListN.{length, replicate, length-set}
 use Rattle.forget.specs.Unfollowed.{unfollowed}
@@ -66,7 +66,7 @@ pub returns-then-not-recursive : goal.returns-then-not-recursive
 returns-then-not-recursive c =
     let cleared = c.clear_bytes.ensures ∙ ap (λ (k : ℕ). replicate k 0) c.requires.mark_bytes in
     let eligible-start : Eligible c.args.flags.now c.args.from.0 =
-        sym c.is_eligible_at.ensures ∙ c.if-not-is_eligible_at.false in
+    sym c.is_eligible_at.ensures ∙ c.if-not-is_eligible_at.false in
     capture_alone (given c.args.recursive c.args.from.0 c.args.flags.now c.args.first.now c.args.dependency.now c.args.next.now) _ cleared c.requires.start_in eligible-start c.if-not-recursive.true
 
 pub walk-requires : goal.walk-requires
@@ -74,7 +74,7 @@ unfolding unfollowed
 walk-requires c =
     let cleared = c.clear_bytes.ensures ∙ ap (λ (k : ℕ). replicate k 0) c.requires.mark_bytes in
     let eligible-start : Eligible c.args.flags.now c.args.from.0 =
-        sym c.is_eligible_at.ensures ∙ c.if-not-is_eligible_at.false in
+    sym c.is_eligible_at.ensures ∙ c.if-not-is_eligible_at.false in
     record {
       tables = c.requires.tables;
       state = start_state (given c.args.recursive c.args.from.0 c.args.flags.now c.args.first.now c.args.dependency.now c.args.next.now) _ cleared c.requires.start_in eligible-start c.args.queue.now c.requires.room;

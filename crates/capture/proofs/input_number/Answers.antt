@@ -7,7 +7,6 @@ use Rattle.refusal.proofs.Ladder.{none_applies, applies, passes, number, no_numb
 use Rattle.records.specs.Bad.{bad_records}
 use Rattle.capture.specs.Call.{bad_counts, bad_lengths, input_tests}
 use Rattle.capture.proofs.Accepted.{records_within, flag_lengths, record_tables}
-use borrow.Author.Rules.{rules}
 use Rattle.capture.proofs.input_number.Goals as goal
 
 pub returns-then-bad_counts : goal.returns-then-bad_counts
@@ -17,22 +16,22 @@ returns-then-bad_counts c = number (applies (sym c.bad_counts.ensures ∙ c.if-b
 pub bad_lengths-requires : goal.bad_lengths-requires
 bad_lengths-requires c =
     let passed-1 : bad_counts c.args.n c.args.d ≡ false =
-        sym c.bad_counts.ensures ∙ c.if-bad_counts.false in
+    sym c.bad_counts.ensures ∙ c.if-bad_counts.false in
     records_within c.args.n c.args.d (passed-1)
 
 pub returns-then-bad_lengths : goal.returns-then-bad_lengths
 unfolding input_tests
 returns-then-bad_lengths c =
     let passed-1 : bad_counts c.args.n c.args.d ≡ false =
-        sym c.bad_counts.ensures ∙ c.if-bad_counts.false in
+    sym c.bad_counts.ensures ∙ c.if-bad_counts.false in
     number (passes (passed-1) (applies (sym c.bad_lengths.ensures ∙ c.if-bad_lengths.true)))
 
 pub bad_records-requires : goal.bad_records-requires
 bad_records-requires c =
     let passed-2 : bad_lengths c.args.flags.now c.args.first.now c.args.dependency.now c.args.next.now c.args.n c.args.d ≡ false =
-        sym c.bad_lengths.ensures ∙ c.if-bad_lengths.false in
+    sym c.bad_lengths.ensures ∙ c.if-bad_lengths.false in
     let passed-1 : bad_counts c.args.n c.args.d ≡ false =
-        sym c.bad_counts.ensures ∙ c.if-bad_counts.false in
+    sym c.bad_counts.ensures ∙ c.if-bad_counts.false in
     let s = c.args in
     record_tables s.flags.now s.first.now s.dependency.now s.next.now s.n s.d (passed-2) (passed-1)
 
@@ -40,16 +39,16 @@ pub returns-then-bad_records : goal.returns-then-bad_records
 unfolding input_tests
 returns-then-bad_records c =
     let passed-1 : bad_counts c.args.n c.args.d ≡ false =
-        sym c.bad_counts.ensures ∙ c.if-bad_counts.false in
+    sym c.bad_counts.ensures ∙ c.if-bad_counts.false in
     let passed-2 : bad_lengths c.args.flags.now c.args.first.now c.args.dependency.now c.args.next.now c.args.n c.args.d ≡ false =
-        sym c.bad_lengths.ensures ∙ c.if-bad_lengths.false in
+    sym c.bad_lengths.ensures ∙ c.if-bad_lengths.false in
     number (passes (passed-1) (passes (passed-2)
     (applies (sym c.bad_records.ensures ∙ c.if-bad_records.true))))
 
 pub bad_flags-requires : goal.bad_flags-requires
 bad_flags-requires c =
     let passed-2 : bad_lengths c.args.flags.now c.args.first.now c.args.dependency.now c.args.next.now c.args.n c.args.d ≡ false =
-        sym c.bad_lengths.ensures ∙ c.if-bad_lengths.false in
+    sym c.bad_lengths.ensures ∙ c.if-bad_lengths.false in
     let s = c.args in
     omega (arith, flag_lengths s.flags.now s.first.now s.dependency.now s.next.now s.n s.d (passed-2))
 
@@ -57,11 +56,11 @@ pub returns-then-bad_flags : goal.returns-then-bad_flags
 unfolding input_tests
 returns-then-bad_flags c =
     let passed-1 : bad_counts c.args.n c.args.d ≡ false =
-        sym c.bad_counts.ensures ∙ c.if-bad_counts.false in
+    sym c.bad_counts.ensures ∙ c.if-bad_counts.false in
     let passed-2 : bad_lengths c.args.flags.now c.args.first.now c.args.dependency.now c.args.next.now c.args.n c.args.d ≡ false =
-        sym c.bad_lengths.ensures ∙ c.if-bad_lengths.false in
+    sym c.bad_lengths.ensures ∙ c.if-bad_lengths.false in
     let passed-7 : bad_records c.args.first.now c.args.dependency.now c.args.next.now c.args.n c.args.d ≡ false =
-        sym c.bad_records.ensures ∙ c.if-bad_records.false in
+    sym c.bad_records.ensures ∙ c.if-bad_records.false in
     number (passes (passed-1) (passes (passed-2)
     (passes (passed-7) (applies (sym c.bad_flags.ensures ∙ c.if-bad_flags.true)))))
 
@@ -69,11 +68,11 @@ pub returns-then-n-from : goal.returns-then-n-from
 unfolding input_tests
 returns-then-n-from c =
     let passed-1 : bad_counts c.args.n c.args.d ≡ false =
-        sym c.bad_counts.ensures ∙ c.if-bad_counts.false in
+    sym c.bad_counts.ensures ∙ c.if-bad_counts.false in
     let passed-2 : bad_lengths c.args.flags.now c.args.first.now c.args.dependency.now c.args.next.now c.args.n c.args.d ≡ false =
-        sym c.bad_lengths.ensures ∙ c.if-bad_lengths.false in
+    sym c.bad_lengths.ensures ∙ c.if-bad_lengths.false in
     let passed-7 : bad_records c.args.first.now c.args.dependency.now c.args.next.now c.args.n c.args.d ≡ false =
-        sym c.bad_records.ensures ∙ c.if-bad_records.false in
+    sym c.bad_records.ensures ∙ c.if-bad_records.false in
     let s = c.args in
     number (passes (passed-1)
     (passes (passed-2)
@@ -85,11 +84,11 @@ pub returns : goal.returns
 unfolding input_tests
 returns c =
     let passed-1 : bad_counts c.args.n c.args.d ≡ false =
-        sym c.bad_counts.ensures ∙ c.if-bad_counts.false in
+    sym c.bad_counts.ensures ∙ c.if-bad_counts.false in
     let passed-2 : bad_lengths c.args.flags.now c.args.first.now c.args.dependency.now c.args.next.now c.args.n c.args.d ≡ false =
-        sym c.bad_lengths.ensures ∙ c.if-bad_lengths.false in
+    sym c.bad_lengths.ensures ∙ c.if-bad_lengths.false in
     let passed-7 : bad_records c.args.first.now c.args.dependency.now c.args.next.now c.args.n c.args.d ≡ false =
-        sym c.bad_records.ensures ∙ c.if-bad_records.false in
+    sym c.bad_records.ensures ∙ c.if-bad_records.false in
     let s = c.args in
     no_number (passes (passed-1)
     (passes (passed-2)

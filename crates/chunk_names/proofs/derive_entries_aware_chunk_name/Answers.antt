@@ -5,7 +5,6 @@ use Rattle.chunk_names.proofs.Appending.{appended_as}
 use Rattle.chunk_names.proofs.TableTests.{passed as tables_passed}
 use Rattle.chunk_names.proofs.ChunkTests.{passed as chunk-passed}
 use Rattle.chunk_names.proofs.Naming.{refuses_tables, refuses_chunk, names, same_name}
-use borrow.Author.Rules.{rules}
 use Rattle.chunk_names.proofs.derive_entries_aware_chunk_name.Goals as goal
 
 pub returns-then-of_tables-ne0 : goal.returns-then-of_tables-ne0

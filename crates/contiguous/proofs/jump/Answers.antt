@@ -4,7 +4,6 @@ use mathlib.Core.Path.{◌≡◌, refl}
 use native.Mathlib.Numerals.{add-one}
 use mir.Val.{bool_byte}
 use Rattle.contiguous.specs.Jumps.{is_jump}
-use borrow.Author.Rules.{rules}
 use Rattle.contiguous.proofs.jump.Goals as goal
 
 as_byte : (b : Bool) → bool_byte b ≡ cond b 1 0

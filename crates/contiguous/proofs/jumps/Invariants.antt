@@ -1,14 +1,11 @@
 -- `contiguous::jumps` meets its contract. The loop's invariant: how many of the records from 1 to r are followed by another than their neighbour.
-use Prim.Native.Nat.{ℕ, suc, ◌+◌, ◌≤◌, ◌-◌}
-use mathlib.Core.Bool.{Bool, true, false, cond}
+use Prim.Native.Nat.{ℕ, suc, ◌≤◌, ◌-◌}
+use mathlib.Core.Bool.{Bool}
 use mathlib.Core.List.{List}
-use mathlib.Core.Path.{◌≡◌, refl, ap, ◌∙◌}
-use native.Mathlib.Nat.{add_comm}
-use native.Mathlib.Numerals.{add-one}
-use native.Mathlib.Omega.{arith}
-use lib.ListN.{length, get_or}
+use mathlib.Core.Path.{◌≡◌}
+use lib.ListN.{get_or}
 use Rattle.lists.specs.Below.{count_below}
-use Rattle.contiguous.specs.Jumps.{is_jump, jumps_of}
+use Rattle.contiguous.specs.Jumps.{is_jump}
 use Rattle.contiguous.proofs.jumps.Given as goal
 
 -- whether record k + 1 is

@@ -1,11 +1,8 @@
 -- `contiguous::lay_chain` meets its contract. The loop's invariant: the chain is laid up to its record r. The measure is the room that is left.
-use Prim.Native.Nat.{◌-◌, ◌≤◌}
 use mathlib.Core.Path.{sym}
 use native.Mathlib.Omega.{arith}
 use mir.Facts.{Fits-32_64}
 use borrow.Author.Tests.{eqb-true}
-use lib.ListN.{length}
-use Rattle.contiguous.specs.Laid.{Laying}
 use Rattle.contiguous.proofs.LayingChain.{lay_begins, lay_turns}
 use Rattle.contiguous.proofs.lay_chain.Goals as goal
 
@@ -19,7 +16,7 @@ pub shape_of-to_next-then-r-eq0 : goal.shape_of-to_next-then-r-eq0
 shape_of-to_next-then-r-eq0 c = c.loop-to.invariant.0.nexts
 
 pub returns-then-r-eq0 : goal.returns-then-r-eq0
-returns-then-r-eq0 c = record { end_le_room = c.loop-to.invariant.1; laying = λ _. rw (sym c.if-r-eq0.true) c.loop-to.invariant.0; }
+returns-then-r-eq0 c = record { end_le_room = c.loop-to.invariant.1; laying = λ _. rw (sym c.if-r-eq0.true) c.loop-to.invariant.0 }
 
 pub offset_bounds-dependency-r : goal.offset_bounds-dependency-r
 offset_bounds-dependency-r c = omega (arith, c.loop-to.invariant.0.record_in, c.requires.modules)
@@ -72,4 +69,4 @@ pub shape_of-to_next : goal.shape_of-to_next
 shape_of-to_next c = c.loop-to.invariant.0.nexts
 
 pub returns : goal.returns
-returns c = record { end_le_room = c.loop-to.invariant.1; laying = λ e. rw (sym (eqb-true c.loop-to.r 0 e)) c.loop-to.invariant.0; }
+returns c = record { end_le_room = c.loop-to.invariant.1; laying = λ e. rw (sym (eqb-true c.loop-to.r 0 e)) c.loop-to.invariant.0 }

@@ -1,12 +1,7 @@
 -- `contiguous::lay_chain` meets its contract. The loop's invariant: the chain is laid up to its record r. The measure is the room that is left.
 use Prim.Native.Nat.{◌-◌, ◌≤◌}
-use mathlib.Core.Path.{sym}
-use native.Mathlib.Omega.{arith}
-use mir.Facts.{Fits-32_64}
-use borrow.Author.Tests.{eqb-true}
 use lib.ListN.{length}
 use Rattle.contiguous.specs.Laid.{Laying}
-use Rattle.contiguous.proofs.LayingChain.{lay_begins, lay_turns}
 use Rattle.contiguous.proofs.lay_chain.Given as goal
 
 abbrev pub invariant-loop-to : goal.invariant-loop-to

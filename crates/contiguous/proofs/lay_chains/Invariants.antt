@@ -1,14 +1,8 @@
 -- `contiguous::lay_chains` meets its contract. The loop's invariant: the chains of the modules below m are laid below `at`. The measure is the
 -- number of modules that are left.
 use Prim.Native.Nat.{◌-◌}
-use mathlib.Core.Logic.{inl, inr}
-use mathlib.Core.Path.{refl}
-use native.Mathlib.Omega.{arith}
-use mir.Facts.{Fits-32_64}
-use borrow.Author.Rules.{rules}
-use borrow.Author.Tests.{not-false}
 use lib.ListN.{length}
-use Rattle.contiguous.proofs.LaidTables.{LayingAll, all_begins, chain_ready, all_turns_lem, all_same}
+use Rattle.contiguous.proofs.LaidTables.{LayingAll}
 use Rattle.contiguous.proofs.lay_chains.Given as goal
 
 abbrev pub invariant-loop-m : goal.invariant-loop-m

@@ -1,6 +1,5 @@
 -- `contiguous::worth_laying` meets its contract.
 use mathlib.Core.Path.{sym}
-use borrow.Author.Rules.{rules}
 use borrow.Author.Tests.{lt-leb, le-leb}
 use Rattle.contiguous.specs.Jumps.{worth_laying}
 use Rattle.contiguous.proofs.worth_laying.Goals as goal

@@ -4,7 +4,6 @@ use Prim.Native.Nat.{ℕ}
 use mathlib.Core.Bool.{false}
 use mathlib.Core.Path.{◌≡◌, sym, ap, ◌∙◌}
 use native.Mathlib.Omega.{arith}
-use borrow.Author.Rules.{rules}
 use Rattle.refusal.specs.Outcome.{accepted}
 use Rattle.ids.specs.Parts.{ids_of}
 use Rattle.whole.specs.Total.{total_exceeds}
@@ -32,7 +31,7 @@ returns-then-bad_offsets c =
 pub returns-then-total_exceeds : goal.returns-then-total_exceeds
 returns-then-total_exceeds c =
     let passed : let a = c.args in Passed a.n a.bytes.now a.offsets.now a.sizes.now =
-        record {
+    record {
       few = c.if-n-gt-MODULE_LIMIT.false;
       all_offsets = c.if-offsets-n.false;
       all_sizes = c.if-sizes-n.false;
@@ -43,50 +42,50 @@ returns-then-total_exceeds c =
 pub returns-then-is_nan : goal.returns-then-is_nan
 returns-then-is_nan c =
     let passed : let a = c.args in Passed a.n a.bytes.now a.offsets.now a.sizes.now =
-        record {
+    record {
       few = c.if-n-gt-MODULE_LIMIT.false;
       all_offsets = c.if-offsets-n.false;
       all_sizes = c.if-sizes-n.false;
       good = sym c.bad_offsets.ensures ∙ c.if-bad_offsets.false;
     } in
     let small : total_exceeds c.args.sizes.now ≡ false =
-        sym c.total_exceeds.ensures ∙ c.if-total_exceeds.false in
+    sym c.total_exceeds.ensures ∙ c.if-total_exceeds.false in
     sym (minimum_nan _ _ _ _ _ _ (passed) (small) (sym c.is_nan.ensures ∙ c.if-is_nan.true))
 
 pub returns-then-is_nan-2 : goal.returns-then-is_nan-2
 returns-then-is_nan-2 c =
     let passed : let a = c.args in Passed a.n a.bytes.now a.offsets.now a.sizes.now =
-        record {
+    record {
       few = c.if-n-gt-MODULE_LIMIT.false;
       all_offsets = c.if-offsets-n.false;
       all_sizes = c.if-sizes-n.false;
       good = sym c.bad_offsets.ensures ∙ c.if-bad_offsets.false;
     } in
     let small : total_exceeds c.args.sizes.now ≡ false =
-        sym c.total_exceeds.ensures ∙ c.if-total_exceeds.false in
+    sym c.total_exceeds.ensures ∙ c.if-total_exceeds.false in
     let nan = sym c.is_nan-2.ensures ∙ c.if-is_nan-2.true in
     sym (maximum_nan _ _ _ _ _ _ (passed) (small) nan)
 
 pub pick_given-requires : goal.pick_given-requires
 pick_given-requires c =
     let passed : let a = c.args in Passed a.n a.bytes.now a.offsets.now a.sizes.now =
-        record {
+    record {
       few = c.if-n-gt-MODULE_LIMIT.false;
       all_offsets = c.if-offsets-n.false;
       all_sizes = c.if-sizes-n.false;
       good = sym c.bad_offsets.ensures ∙ c.if-bad_offsets.false;
     } in
     let small : total_exceeds c.args.sizes.now ≡ false =
-        sym c.total_exceeds.ensures ∙ c.if-total_exceeds.false in
+    sym c.total_exceeds.ensures ∙ c.if-total_exceeds.false in
     let all-passed : let a = c.args in Accepted a.n a.bytes.now a.offsets.now a.sizes.now a.minimum a.maximum =
-        record {
+    record {
       tables = passed;
       small = small;
       minimum_given = sym c.is_nan.ensures ∙ c.if-is_nan.false;
       maximum_given = sym c.is_nan-2.ensures ∙ c.if-is_nan-2.false;
     } in
     let given : let a = c.args in GivenOrder a.bytes.now a.offsets.now a.sizes.now =
-        let p = all-passed in
+    let p = all-passed in
     record {
       few = omega (arith, p.tables.few, p.tables.all_sizes);
       all_offsets = omega (arith, p.tables.all_offsets, p.tables.all_sizes);
@@ -98,22 +97,21 @@ pick_given-requires c =
 pub returns : goal.returns
 returns c =
     let passed : let a = c.args in Passed a.n a.bytes.now a.offsets.now a.sizes.now =
-        record {
+    record {
       few = c.if-n-gt-MODULE_LIMIT.false;
       all_offsets = c.if-offsets-n.false;
       all_sizes = c.if-sizes-n.false;
       good = sym c.bad_offsets.ensures ∙ c.if-bad_offsets.false;
     } in
     let small : total_exceeds c.args.sizes.now ≡ false =
-        sym c.total_exceeds.ensures ∙ c.if-total_exceeds.false in
+    sym c.total_exceeds.ensures ∙ c.if-total_exceeds.false in
     let all-passed : let a = c.args in Accepted a.n a.bytes.now a.offsets.now a.sizes.now a.minimum a.maximum =
-        record {
+    record {
       tables = passed;
       small = small;
       minimum_given = sym c.is_nan.ensures ∙ c.if-is_nan.false;
       maximum_given = sym c.is_nan-2.ensures ∙ c.if-is_nan-2.false;
     } in
-    
     let a = c.args in
     ap accepted
     (c.pick_given.ensures

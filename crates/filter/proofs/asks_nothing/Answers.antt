@@ -1,5 +1,4 @@
 -- `filter::asks_nothing` meets its contract: the tests are those of the definition, in its order.
-use borrow.Author.Rules.{rules}
 use Rattle.filter.specs.Filter.{asks_nothing}
 use Rattle.filter.proofs.asks_nothing.Goals as goal
 

@@ -2,7 +2,6 @@
 use Prim.Native.Nat.{◌≤◌, ◌<◌}
 use mathlib.Core.Path.{sym, ap, ◌∙◌}
 use native.Mathlib.Omega.{arith}
-use borrow.Author.Rules.{rules}
 use Rattle.refusal.specs.Outcome.{accepted}
 use Rattle.whole.specs.Total.{total_limit}
 use Rattle.filter.proofs.Ways.{size_refused, min_refused, max_refused, none_refused}

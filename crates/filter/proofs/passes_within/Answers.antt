@@ -1,7 +1,5 @@
 -- `filter::passes_within` meets its contract: each way out by what its test says of the whole filter.
 use mathlib.Core.Path.{sym, ◌∙◌}
-use borrow.Author.Rules.{rules}
-use borrow.Author.Tests.{not-true, not-false}
 use lib.Dec.{le→leb}
 use lib.Ieee.{in_float}
 use Rattle.filter.proofs.Ways.{tags_missing, too_small, too_large, only_shares}

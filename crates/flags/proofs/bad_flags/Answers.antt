@@ -1,5 +1,4 @@
 -- `flags::bad_flags` meets its contract. The loop's invariant: whether some flag byte passed is above 7.
-use Prim.Native.Nat.{◌-◌, ◌≤◌}
 use mathlib.Core.Path.{◌≡◌, refl, ap, ◌∙◌}
 use native.Mathlib.Numerals.{add-one}
 use native.Mathlib.Omega.{arith}

@@ -1,9 +1,6 @@
 -- `flags::bad_flags` meets its contract. The loop's invariant: whether some flag byte passed is above 7.
 use Prim.Native.Nat.{◌-◌, ◌≤◌}
-use mathlib.Core.Path.{◌≡◌, refl, ap, ◌∙◌}
-use native.Mathlib.Numerals.{add-one}
-use native.Mathlib.Omega.{arith}
-use Rattle.lists.specs.Below.{any_below}
+use mathlib.Core.Path.{◌≡◌}
 use Rattle.flags.specs.Flags.{bad_flags}
 use Rattle.flags.proofs.bad_flags.Given as goal
 

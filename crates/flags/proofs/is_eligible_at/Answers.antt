@@ -1,5 +1,4 @@
 -- `flags::is_eligible_at` meets its contract: the mask has the three bits that the definition names, and only the third must be zero.
-use borrow.Author.Rules.{rules}
 use lib.ListN.{get_or}
 use Rattle.flags.specs.Flags.{eligible_at}
 use Rattle.flags.proofs.Masks.{eligible_mask}

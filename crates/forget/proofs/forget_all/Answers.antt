@@ -1,10 +1,8 @@
 -- `forget::forget_all` meets its contract: with one chain more undone a turn, none of its records is marked any more.
-use Prim.Native.Nat.{◌-◌}
 use mathlib.Core.Path.{sym, ◌∙◌}
 use native.Mathlib.Omega.{arith}
 use mir.Facts.{Fits-32_64}
-use lib.ListN.{length}
-use Rattle.forget.proofs.Undoing.{AllForgetting, all_forget_begins, all_forget_turns, all_forget_ends, chain_ready}
+use Rattle.forget.proofs.Undoing.{all_forget_begins, all_forget_turns, all_forget_ends, chain_ready}
 use Rattle.forget.proofs.forget_all.Goals as goal
 
 pub bounds-followed-0 : goal.bounds-followed-0

@@ -1,11 +1,8 @@
 -- `forget::forget_chain` meets its contract. The loop's invariant: what is left to undo from record r on is what was to be undone from the
 -- chain's first record on. The measure is the number of records left.
-use Prim.Native.Nat.{◌-◌}
 use native.Mathlib.Omega.{arith}
 use mir.Facts.{Fits-32_64}
-use lib.ListN.{length}
-use Rattle.records.specs.Chain.{chain_from}
-use Rattle.forget.proofs.Undoing.{Forgetting, forget_begins, forget_ends, forget_less, forget_turns}
+use Rattle.forget.proofs.Undoing.{forget_begins, forget_ends, forget_less, forget_turns}
 use Rattle.forget.proofs.forget_chain.Goals as goal
 
 pub loop-followed-init : goal.loop-followed-init

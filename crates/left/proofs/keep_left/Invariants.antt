@@ -1,10 +1,7 @@
 -- `left::keep_left` meets its contract. The loop's invariant: what is left of the first i modules is written.
 use Prim.Native.Nat.{◌-◌}
-use mathlib.Core.Logic.{⊎_elim}
-use native.Mathlib.Omega.{arith}
-use borrow.Author.Tests.{eq-eqb, ne_eqb}
-use lib.ListN.{length, get_or}
-use Rattle.left.proofs.KeepLeft.{Passed, none_kept, one_kept, one_passed, all_kept}
+use lib.ListN.{length}
+use Rattle.left.proofs.KeepLeft.{Passed}
 use Rattle.left.proofs.keep_left.Given as goal
 
 abbrev pub invariant-loop-i : goal.invariant-loop-i

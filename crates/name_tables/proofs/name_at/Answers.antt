@@ -1,6 +1,5 @@
 -- `name_tables::name_at` meets its contract: the part that it lends is the definition's slice from an offset to the next.
 use Prim.Native.Nat.{◌+◌}
-use borrow.Author.Rules.{rules}
 use lib.ListN.{get_or}
 use Rattle.ids.specs.Parts.{id_at}
 use Rattle.ids.proofs.IdParts.{part_slice}

@@ -2,13 +2,10 @@
 use Prim.Native.Nat.{ℕ, suc, ◌≤◌, ◌-◌}
 use mathlib.Core.Bool.{Bool, ◌||◌}
 use mathlib.Core.List.{List}
-use mathlib.Core.Path.{◌≡◌, refl, ap, ◌∙◌}
-use native.Mathlib.Numerals.{add-one}
-use native.Mathlib.Omega.{arith}
+use mathlib.Core.Path.{◌≡◌}
 use lib.Dec.{eqb, ltb}
 use lib.ListN.{get_or}
 use Rattle.lists.specs.Below.{all_below}
-use Rattle.records.specs.Ascending.{all_ascend}
 use Rattle.records.proofs.all_ascend.Given as goal
 
 -- whether record k + 1 ascends

@@ -1,7 +1,6 @@
 -- `records::any_bad_chain` meets its contract: the local table has a byte for each record, and none is marked.
 use mathlib.Core.Path.{refl}
 use native.Mathlib.Omega.{arith}
-use borrow.Author.Rules.{rules}
 use Rattle.records.proofs.any_bad_chain.Goals as goal
 
 pub bad_chain-requires-2 : goal.bad_chain-requires-2

@@ -1,6 +1,6 @@
 -- `records::bad_chain` meets its contract. The outer loop's invariant: every chain passed has its zero within d records, and so has that of every
 -- known record. The inner one: the chain from `start` has its zero within some records more just where the rest of it, from record r on, has.
-use Prim.Native.Nat.{ℕ, ◌≤◌, ◌<◌, ◌-◌}
+use Prim.Native.Nat.{ℕ, ◌≤◌}
 use mathlib.Core.Bool.{true, false, not}
 use mathlib.Core.List.{List}
 use mathlib.Core.Path.{◌≡◌, refl, sym, ap, ◌∙◌, subst}

@@ -1,20 +1,12 @@
 -- `records::bad_chain` meets its contract. The outer loop's invariant: every chain passed has its zero within d records, and so has that of every
 -- known record. The inner one: the chain from `start` has its zero within some records more just where the rest of it, from record r on, has.
 use Prim.Native.Nat.{ℕ, ◌≤◌, ◌<◌, ◌-◌}
-use mathlib.Core.Bool.{true, false, not}
-use mathlib.Core.List.{List}
-use mathlib.Core.Path.{◌≡◌, refl, sym, ap, ◌∙◌, subst}
-use native.Mathlib.Nat.{not-suc-le-zero}
-use native.Mathlib.Omega.{arith}
-use mir.Facts.{Fits-32_64}
-use borrow.Author.Count.{below_more}
-use lib.ListN.{length, get_or, set, length-set}
-use Rattle.lists.proofs.Below.{any_none, any_some}
-use Rattle.records.specs.Bad.{bad_chain}
+use mathlib.Core.Bool.{false, not}
+use mathlib.Core.Path.{◌≡◌}
+use lib.ListN.{length, get_or}
 use Rattle.records.specs.Chain.{ended}
 use Rattle.records.specs.Marks.{Known}
-use Rattle.records.proofs.ChainMarks.{record_marked, unmarked_some}
-use Rattle.records.proofs.Known.{known_none, known_more, Along, along_start, along_next, along_known, along_none}
+use Rattle.records.proofs.Known.{Along}
 use Rattle.records.proofs.bad_chain.Given as goal
 
 abbrev pub invariant-loop-r : goal.invariant-loop-r

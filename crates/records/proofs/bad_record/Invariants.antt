@@ -2,13 +2,10 @@
 use Prim.Native.Nat.{ℕ, suc, ◌≤◌, ◌-◌}
 use mathlib.Core.Bool.{Bool, ◌||◌}
 use mathlib.Core.List.{List}
-use mathlib.Core.Path.{◌≡◌, refl, ap, ◌∙◌}
-use native.Mathlib.Numerals.{add-one}
-use native.Mathlib.Omega.{arith}
+use mathlib.Core.Path.{◌≡◌}
 use lib.Dec.{ltb, leb}
 use lib.ListN.{get_or}
 use Rattle.lists.specs.Below.{any_below}
-use Rattle.records.specs.Bad.{bad_record}
 use Rattle.records.proofs.bad_record.Given as goal
 
 -- whether record k + 1 is bad

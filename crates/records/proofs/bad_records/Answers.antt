@@ -6,7 +6,6 @@ use native.Mathlib.Omega.{arith}
 use Rattle.records.specs.Bad.{bad_first, bad_record, bad_records}
 use Rattle.records.proofs.Ascending.{none_bad}
 use Rattle.records.proofs.Table.{first_in, next_in}
-use borrow.Author.Rules.{rules}
 use Rattle.records.proofs.bad_records.Goals as goal
 
 pub returns-then-bad_first : goal.returns-then-bad_first

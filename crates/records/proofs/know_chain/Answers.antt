@@ -3,10 +3,8 @@
 use native.Mathlib.Omega.{arith}
 use mir.Facts.{Fits-32_64}
 use mathlib.Core.Path.{sym}
-use lib.ListN.{length}
-use Rattle.records.specs.Chain.{chain_from}
 use Rattle.records.proofs.ChainMarks.{record_marked}
-use Rattle.records.proofs.Marking.{Marking, marking_begins, marking_ends, marking_less, marking_turns}
+use Rattle.records.proofs.Marking.{marking_begins, marking_ends, marking_less, marking_turns}
 use Rattle.records.proofs.know_chain.Goals as goal
 
 pub loop-known-init : goal.loop-known-init

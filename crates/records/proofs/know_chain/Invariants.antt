@@ -1,12 +1,8 @@
 -- `records::know_chain` meets its contract. The loop's invariant: what is left to mark from record r on is what was to be marked from the
 -- chain's first record on. The measure is the number of records left.
-use native.Mathlib.Omega.{arith}
-use mir.Facts.{Fits-32_64}
-use mathlib.Core.Path.{sym}
 use lib.ListN.{length}
 use Rattle.records.specs.Chain.{chain_from}
-use Rattle.records.proofs.ChainMarks.{record_marked}
-use Rattle.records.proofs.Marking.{Marking, marking_begins, marking_ends, marking_less, marking_turns}
+use Rattle.records.proofs.Marking.{Marking}
 use Rattle.records.proofs.know_chain.Given as goal
 
 abbrev pub invariant-loop-known : goal.invariant-loop-known

@@ -22,11 +22,9 @@ link-requires c =
       first_of =
           put_mid c.args.at (c.args.at + c.args.made - c.args.at) c.args.first_of.now c.clear_words-2.new.area;
     } =
-        
     let first = c.clear_words in
     unlinked_is c.args.n c.args.at c.args.made ((record { next_of = c.args.next_of.now; first_of = c.args.first_of.now })) first.new.area c.clear_words-2.new.area c.requires.modules c.requires.records
     first.ensures c.clear_words-2.ensures in
-    
     subst (Linkable c.args.order.now c.args.chunk_of.now c.args.on_entry c.args.at)
     (emptied)
     c.requires.linkable
@@ -39,11 +37,9 @@ returns c =
       first_of =
           put_mid c.args.at (c.args.at + c.args.made - c.args.at) c.args.first_of.now c.clear_words-2.new.area;
     } =
-        
     let first = c.clear_words in
     unlinked_is c.args.n c.args.at c.args.made ((record { next_of = c.args.next_of.now; first_of = c.args.first_of.now })) first.new.area c.clear_words-2.new.area c.requires.modules c.requires.records
     first.ensures c.clear_words-2.ensures in
-    
     record {
       chains = c.link.ensures ∙ ap (linked c.args.chunk_of.now c.args.on_entry c.args.at c.args.order.now)
           (sym (emptied));

@@ -37,18 +37,18 @@ pub convert_groups_to_chunks-requires : goal.convert_groups_to_chunks-requires
 convert_groups_to_chunks-requires c =
     let p = c.requires in
     let in_order =
-        turns_are p.b _ _ p.fits.tables zeros c.into_priority_sorted_groups.new.turns (making_groups p) c.into_priority_sorted_groups.auto.turns
-        c.into_priority_sorted_groups.ensures in
+    turns_are p.b _ _ p.fits.tables zeros c.into_priority_sorted_groups.new.turns (making_groups p) c.into_priority_sorted_groups.auto.turns
+    c.into_priority_sorted_groups.ensures in
     let fresh = fresh_areas p.b _ _ c.clear_words.new.area p.fits.tables.modules p.room.modules c.clear_words.ensures in
-    record { groups_turning = groups_turning p.b _ _ p.fits _ in_order _ _ _ fresh p.room p.small; n_in_bounds = p.work; }
+    record { groups_turning = groups_turning p.b _ _ p.fits _ in_order _ _ _ fresh p.room p.small; n_in_bounds = p.work }
 
 pub returns : goal.returns
 returns c =
     record {
       of_build = λ b fits room.
           let in_order =
-              turns_are b _ _ fits.tables zeros c.into_priority_sorted_groups.new.turns (making_groups c.requires)
-              c.into_priority_sorted_groups.auto.turns c.into_priority_sorted_groups.ensures in
+          turns_are b _ _ fits.tables zeros c.into_priority_sorted_groups.new.turns (making_groups c.requires)
+          c.into_priority_sorted_groups.auto.turns c.into_priority_sorted_groups.ensures in
           let fresh = fresh_areas b _ _ c.clear_words.new.area fits.tables.modules room.modules c.clear_words.ensures in
           all_made b _ _ fits _ in_order _ _ _ fresh room _ _ c.convert_groups_to_chunks.ensures.groups_turned;
     }

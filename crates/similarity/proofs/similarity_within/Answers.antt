@@ -1,12 +1,8 @@
 -- `similarity::similarity_within` meets its contract. The invariant: the score so far and the similarity from byte i on add to the
 -- whole similarity, and the score is at most 10 for each byte passed.
-use Prim.Native.Nat.{◌+◌, ◌-◌, ◌*◌, ◌≤◌}
-use mathlib.Core.Path.{◌≡◌}
+use Prim.Native.Nat.{◌≤◌}
 use native.Mathlib.Nat.{zero-add}
 use native.Mathlib.Omega.{arith}
-use borrow.Author.Rules.{rules}
-use lib.ListN.{drop}
-use Rattle.similarity.specs.Similarity.{similarity}
 use Rattle.similarity.proofs.SimilarityLaws.{byte_score_le, from_done, from_pair}
 use Rattle.similarity.proofs.similarity_within.Goals as goal
 

@@ -2,12 +2,8 @@
 -- whole similarity, and the score is at most 10 for each byte passed.
 use Prim.Native.Nat.{◌+◌, ◌-◌, ◌*◌, ◌≤◌}
 use mathlib.Core.Path.{◌≡◌}
-use native.Mathlib.Nat.{zero-add}
-use native.Mathlib.Omega.{arith}
-use borrow.Author.Rules.{rules}
 use lib.ListN.{drop}
 use Rattle.similarity.specs.Similarity.{similarity}
-use Rattle.similarity.proofs.SimilarityLaws.{byte_score_le, from_done, from_pair}
 use Rattle.similarity.proofs.similarity_within.Given as goal
 
 abbrev pub invariant-loop-i : goal.invariant-loop-i

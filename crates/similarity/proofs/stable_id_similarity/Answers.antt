@@ -1,6 +1,5 @@
 -- `similarity::stable_id_similarity` meets its contract: the two tests in their order decide the call, and an accepted one has its score.
 use mathlib.Core.Path.{sym, ap, ◌∙◌}
-use borrow.Author.Rules.{rules}
 use borrow.Author.Tests.{ltb-false}
 use Rattle.refusal.specs.Outcome.{accepted}
 use Rattle.refusal.proofs.Ladder.{none_applies, applies, passes}

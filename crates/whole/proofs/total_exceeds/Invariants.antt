@@ -1,17 +1,10 @@
 -- `whole::total_exceeds` answers whether the sizes add to more than 2^53. The loop's invariant: `total` is the sum of the sizes passed,
 -- and at most 2^53. A part of the sizes that adds to more is enough, since the others only add to it.
-use Prim.Native.Nat.{ℕ, suc, ◌+◌, ◌-◌, ◌≤◌, ◌<◌}
-use native.Mathlib.Numerals.{add-one}
-use native.Mathlib.Omega.{arith}
-use mathlib.Core.Path.{◌≡◌, refl, sym, ap, ◌∙◌}
-use mathlib.Core.Bool.{true, false}
-use mathlib.Core.List.{List}
-use borrow.Author.Tests.{lt-ltb, le-ltb}
-use lib.ListN.{length, get_or, take}
-use lib.Seq.{take_all}
+use Prim.Native.Nat.{◌-◌, ◌≤◌}
+use mathlib.Core.Path.{◌≡◌}
+use lib.ListN.{length, take}
 use Rattle.lists.specs.Sum.{sum}
-use Rattle.whole.specs.Total.{total_limit, total_exceeds}
-use Rattle.lists.proofs.Sum.{sum_take_suc, sum_take_le}
+use Rattle.whole.specs.Total.{total_limit}
 use Rattle.whole.proofs.total_exceeds.Given as goal
 
 abbrev pub invariant-loop-i : goal.invariant-loop-i

@@ -1,9 +1,7 @@
 -- No row before k has an entry that far: the loop's invariant. The measure is the rows left.
-use Prim.Native.Nat.{◌≤◌, ◌-◌}
-use mathlib.Core.Bool.{false}
 use mathlib.Core.Path.{◌≡◌, sym, ap, ◌∙◌}
 use native.Mathlib.Omega.{arith}
-use Rattle.bitset.specs.Entries.{beyond, any_beyond}
+use Rattle.bitset.specs.Entries.{beyond}
 use Rattle.bitset.proofs.Beyond.{rows_none, rows_more, rows_some}
 use Rattle.bitset.proofs.table.any_bit_from.Goals as goal
 

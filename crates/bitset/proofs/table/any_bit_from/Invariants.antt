@@ -1,10 +1,8 @@
 -- No row before k has an entry that far: the loop's invariant. The measure is the rows left.
 use Prim.Native.Nat.{◌≤◌, ◌-◌}
 use mathlib.Core.Bool.{false}
-use mathlib.Core.Path.{◌≡◌, sym, ap, ◌∙◌}
-use native.Mathlib.Omega.{arith}
-use Rattle.bitset.specs.Entries.{beyond, any_beyond}
-use Rattle.bitset.proofs.Beyond.{rows_none, rows_more, rows_some}
+use mathlib.Core.Path.{◌≡◌}
+use Rattle.bitset.specs.Entries.{any_beyond}
 use Rattle.bitset.proofs.table.any_bit_from.Given as goal
 
 abbrev pub invariant-loop-k : goal.invariant-loop-k

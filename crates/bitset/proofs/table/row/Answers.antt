@@ -1,6 +1,5 @@
 -- The four reads are the four words of the row.
 use Rattle.bitset.proofs.Words.{row_reads}
-use borrow.Author.Rules.{rules}
 use Rattle.bitset.proofs.table.row.Goals as goal
 
 pub returns : goal.returns

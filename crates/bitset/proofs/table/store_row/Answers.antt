@@ -4,7 +4,6 @@ use native.Mathlib.Omega.{arith}
 use lib.ListN.{length-set}
 use Rattle.bitset.specs.Rows.{with_row}
 use Rattle.bitset.proofs.Rows.{four_stores}
-use borrow.Author.Rules.{rules}
 use Rattle.bitset.proofs.table.store_row.Goals as goal
 
 pub bounds-table-at-2 : goal.bounds-table-at-2

@@ -1,7 +1,6 @@
 -- Each way out by its law: all bits count, none does, or those left after a shift by the distance.
 use mathlib.Core.Path.{sym}
 use native.Mathlib.Omega.{arith}
-use borrow.Author.Rules.{rules}
 use Rattle.bitset.proofs.Shifts.{any_from_all, any_from_none, any_from_shift}
 use Rattle.bitset.proofs.word.any_from.Goals as goal
 

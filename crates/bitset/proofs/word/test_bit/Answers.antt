@@ -1,6 +1,5 @@
 -- The word shifted down and masked by one is its remainder by two, which is bit k.
 use mathlib.Core.Path.{ap}
-use borrow.Author.Rules.{rules}
 use Prim.Native.Nat.{ℕ, ◌/◌, ◌^◌}
 use lib.Bits.{and_mask}
 use lib.Dec.{eqb}

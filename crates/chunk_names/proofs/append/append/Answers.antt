@@ -3,7 +3,6 @@ use mathlib.Core.Path.{sym, ◌∙◌}
 use native.Mathlib.Omega.{arith}
 use lib.ListN.{length-take, length-drop}
 use Rattle.chunk_names.proofs.Appending.{appended}
-use borrow.Author.Rules.{rules}
 use Rattle.chunk_names.proofs.append.append.Goals as goal
 
 pub slice_bounds-copy_bytes-end : goal.slice_bounds-copy_bytes-end

@@ -1,11 +1,8 @@
 -- `chunk_names::conditions::any_high` meets its contract. The invariant: the test of the bytes from i on gives what the whole test gives.
 use Prim.Native.Nat.{◌≤◌, ◌-◌}
-use mathlib.Core.Path.{◌≡◌, refl, sym, ◌∙◌}
-use native.Mathlib.Omega.{arith}
-use borrow.Author.Rules.{rules}
+use mathlib.Core.Path.{◌≡◌}
 use lib.ListN.{length, drop}
 use Rattle.chunk_names.specs.Conditions.{any_high}
-use Rattle.chunk_names.proofs.HashBytes.{byte_high, byte_low, no_byte}
 use Rattle.chunk_names.proofs.conditions.any_high.Given as goal
 
 abbrev pub invariant-loop-i : goal.invariant-loop-i

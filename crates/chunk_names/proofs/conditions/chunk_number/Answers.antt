@@ -4,7 +4,6 @@ use mathlib.Core.Path.{sym, subst, ◌∙◌}
 use lib.ListN.{length}
 use Rattle.name_tables.proofs.NamesFrom.{name_in_table}
 use Rattle.chunk_names.proofs.ChunkTests.{unknown, area_short, group_long, groups_not_text, entries_not_text, not_ascending, hash_bad, none_bad}
-use borrow.Author.Rules.{rules}
 use Rattle.chunk_names.proofs.conditions.chunk_number.Goals as goal
 
 pub returns-then-k-number : goal.returns-then-k-number

@@ -1,7 +1,6 @@
 -- `chunk_names::conditions::table_number` meets its contract: each return is one step of the row of tests.
 use mathlib.Core.Path.{sym, ◌∙◌}
 use Rattle.chunk_names.proofs.TableTests.{too_many_names, too_many_entries, groups_missing, entries_missing, groups_bad, entries_bad, none_bad}
-use borrow.Author.Rules.{rules}
 use Rattle.chunk_names.proofs.conditions.table_number.Goals as goal
 
 pub returns-then-k-gt-NAME_LIMIT : goal.returns-then-k-gt-NAME_LIMIT

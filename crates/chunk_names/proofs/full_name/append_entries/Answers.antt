@@ -1,11 +1,9 @@
 -- `chunk_names::full_name::append_entries` meets its contract. The invariant: what stands behind the first bytes is what the first entries add.
-use Prim.Native.Nat.{◌≤◌, ◌-◌}
 use mathlib.Core.Path.{◌≡◌, sym, ap, ◌∙◌}
 use native.Mathlib.Omega.{arith}
 use lib.ListN.{length}
 use Rattle.name_tables.specs.Names.{names_of}
 use Rattle.ids.proofs.IdParts.{ids_length}
-use Rattle.chunk_names.specs.Append.{Appended}
 use Rattle.chunk_names.proofs.Appending.{appended_none, appended_both, appended_as, same_room, mid_within}
 use Rattle.chunk_names.proofs.EntryParts.{added_to, added_none, added_more, added_all}
 use Rattle.chunk_names.proofs.full_name.append_entries.Goals as goal

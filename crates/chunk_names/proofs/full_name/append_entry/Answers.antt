@@ -7,7 +7,6 @@ use Rattle.ids.proofs.IdParts.{ids_at}
 use Rattle.chunk_names.specs.Name.{separated}
 use Rattle.chunk_names.proofs.Appending.{appended_none, appended_as}
 use Rattle.chunk_names.proofs.EntryParts.{added_with, added_without}
-use borrow.Author.Rules.{rules}
 use Rattle.chunk_names.proofs.full_name.append_entry.Goals as goal
 
 pub has_bit-requires : goal.has_bit-requires

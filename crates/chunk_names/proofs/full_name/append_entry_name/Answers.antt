@@ -2,7 +2,6 @@
 use mathlib.Core.Path.{sym}
 use Rattle.chunk_names.proofs.Appending.{appended_none, appended_both, appended_as, mid_within}
 use Rattle.chunk_names.proofs.EntryParts.{separated_none, separated_some}
-use borrow.Author.Rules.{rules}
 use Rattle.chunk_names.proofs.full_name.append_entry_name.Goals as goal
 
 pub returns-then-name-eq0 : goal.returns-then-name-eq0

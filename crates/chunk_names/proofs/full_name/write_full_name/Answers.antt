@@ -3,7 +3,6 @@ use native.Mathlib.Omega.{arith}
 use Rattle.name_tables.specs.Names.{names_of}
 use Rattle.chunk_names.proofs.Appending.{appended_both, appended_as, mid_within}
 use Rattle.chunk_names.proofs.NameKinds.{full_name_lem}
-use borrow.Author.Rules.{rules}
 use Rattle.chunk_names.proofs.full_name.write_full_name.Goals as goal
 
 pub append_entries-requires : goal.append_entries-requires

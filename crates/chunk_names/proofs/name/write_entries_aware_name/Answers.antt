@@ -4,7 +4,6 @@ use native.Mathlib.Omega.{arith}
 use lib.Seq.{length-take-le}
 use Rattle.chunk_names.proofs.Appending.{appended_as, mid_within}
 use Rattle.chunk_names.proofs.FrontOfName.{short_name, long_name}
-use borrow.Author.Rules.{rules}
 use Rattle.chunk_names.proofs.name.write_entries_aware_name.Goals as goal
 
 pub slice_bounds-append-end : goal.slice_bounds-append-end

@@ -2,7 +2,6 @@
 use Rattle.name_tables.specs.Names.{names_of}
 use Rattle.chunk_names.proofs.Appending.{appended_as}
 use Rattle.chunk_names.proofs.NameKinds.{aware_name, bare_name}
-use borrow.Author.Rules.{rules}
 use Rattle.chunk_names.proofs.name.write_name.Goals as goal
 
 pub returns-then-entries_aware : goal.returns-then-entries_aware

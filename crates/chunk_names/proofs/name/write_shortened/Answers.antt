@@ -5,7 +5,6 @@ use lib.Seq.{length-take-le}
 use Rattle.utf8.proofs.Starts.{start_back_le}
 use Rattle.chunk_names.proofs.FrontOfName.{kept_shortened}
 use Rattle.chunk_names.proofs.Appending.{appended_both, appended_as, mid_within}
-use borrow.Author.Rules.{rules}
 use Rattle.chunk_names.proofs.name.write_shortened.Goals as goal
 
 pub slice_bounds-append-end : goal.slice_bounds-append-end

@@ -1,11 +1,9 @@
 -- `cut::given::look_at` meets its contract: a cut that is not allowed is passed over, and any other is compared with the best.
 use Prim.Native.Nat.{ℕ}
 use mathlib.Core.Path.{sym, ap, ◌∙◌}
-use borrow.Author.Tests.{not-true, not-false}
 use Rattle.cut.specs.Candidate.{allowed}
 use Rattle.cut.specs.Scan.{replaced}
 use Rattle.cut.proofs.Looking.{not_allowed_lem, is_allowed}
-use borrow.Author.Rules.{rules}
 use Rattle.cut.proofs.given.look_at.Goals as goal
 
 pub returns-then-not-both_reach : goal.returns-then-not-both_reach

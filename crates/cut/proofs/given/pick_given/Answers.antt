@@ -1,11 +1,9 @@
 -- `cut::given::pick_given` meets its contract. The loop's invariant: the left total is that of the sizes before place i, and the best is that of
 -- the places before it.
-use Prim.Native.Nat.{ℕ, ◌-◌, ◌≤◌, ◌<◌}
-use mathlib.Core.List.{foldl, map}
+use Prim.Native.Nat.{ℕ, ◌-◌, ◌<◌}
 use mathlib.Core.Path.{◌≡◌, refl, sym, ap, ap₂, ◌∙◌}
 use native.Mathlib.Nat.{add-sub_cancel}
 use native.Mathlib.Omega.{arith}
-use borrow.Author.Rules.{rules}
 use lib.Ieee.{Float, binary64, add, sub}
 use lib.ListN.{length, get_or, take, drop}
 use Rattle.lists.specs.Range.{range}
@@ -15,7 +13,6 @@ use Rattle.ids.specs.Parts.{ids_of}
 use Rattle.ids.proofs.IdParts.{ids_length}
 use Rattle.cut.specs.Candidate.{candidate_at}
 use Rattle.cut.specs.Scan.{considered, chosen_from}
-use Rattle.cut.specs.declared.scan.Best.TheVariants.{Nothing}
 use Rattle.cut.specs.declared.scan.Bounds.{Bounds}
 use Rattle.cut.proofs.InOrder.{held}
 use Rattle.cut.proofs.Totals.{no_size, size_next}
@@ -39,7 +36,7 @@ int_to_float-left c =
 
 pub look_at-best-requires : goal.look_at-best-requires
 look_at-best-requires c =
-    let l = c.loop-i in record { named_pair = pair_given _ _ c.args.sizes.now l.i l.invariant.0 (omega arith) c.requires; le_i = (l.invariant.0, omega (arith, c.requires.few)); }
+    let l = c.loop-i in record { named_pair = pair_given _ _ c.args.sizes.now l.i l.invariant.0 (omega arith) c.requires; le_i = (l.invariant.0, omega (arith, c.requires.few)) }
 
 pub loop-i-preserved : goal.loop-i-preserved
 loop-i-preserved c =

@@ -1,26 +1,15 @@
 -- `cut::given::pick_given` meets its contract. The loop's invariant: the left total is that of the sizes before place i, and the best is that of
 -- the places before it.
-use Prim.Native.Nat.{ℕ, ◌-◌, ◌≤◌, ◌<◌}
+use Prim.Native.Nat.{◌-◌, ◌≤◌}
 use mathlib.Core.List.{foldl, map}
-use mathlib.Core.Path.{◌≡◌, refl, sym, ap, ap₂, ◌∙◌}
-use native.Mathlib.Nat.{add-sub_cancel}
-use native.Mathlib.Omega.{arith}
-use borrow.Author.Rules.{rules}
-use lib.Ieee.{Float, binary64, add, sub}
-use lib.ListN.{length, get_or, take, drop}
+use mathlib.Core.Path.{◌≡◌}
+use lib.ListN.{length, take}
 use Rattle.lists.specs.Range.{range}
-use Rattle.whole.specs.Double.{to_f64, sum_f64}
-use Rattle.whole.proofs.Exact.{total_less_part}
+use Rattle.whole.specs.Double.{sum_f64}
 use Rattle.ids.specs.Parts.{ids_of}
-use Rattle.ids.proofs.IdParts.{ids_length}
 use Rattle.cut.specs.Candidate.{candidate_at}
-use Rattle.cut.specs.Scan.{considered, chosen_from}
+use Rattle.cut.specs.Scan.{considered}
 use Rattle.cut.specs.declared.scan.Best.TheVariants.{Nothing}
-use Rattle.cut.specs.declared.scan.Bounds.{Bounds}
-use Rattle.cut.proofs.InOrder.{held}
-use Rattle.cut.proofs.Totals.{no_size, size_next}
-use Rattle.cut.proofs.GivenOrder.{pair_given, place_given}
-use Rattle.cut.proofs.Scanning.{scan_cuts, looked_at}
 use Rattle.cut.proofs.given.pick_given.Given as goal
 
 abbrev pub invariant-loop-i : goal.invariant-loop-i

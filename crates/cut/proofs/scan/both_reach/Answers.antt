@@ -1,6 +1,4 @@
 -- `cut::scan::both_reach` meets its contract: the left side is tested first.
-use lib.Ieee.{le}
-use borrow.Author.Tests.{not-true, not-false}
 use Rattle.cut.proofs.scan.both_reach.Goals as goal
 
 pub returns-then-not-minimum-left : goal.returns-then-not-minimum-left

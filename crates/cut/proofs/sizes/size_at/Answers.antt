@@ -1,7 +1,7 @@
 -- `cut::sizes::size_at` meets its contract: the module has a size, which a double holds.
 use Prim.Native.Nat.{◌<◌}
 use mathlib.Core.Path.{sym, ap}
-use borrow.Author.Rules.{rules, scaled_Fits}
+use borrow.Author.Rules.{scaled_Fits}
 use native.Mathlib.Omega.{arith}
 use lib.ListN.{length, get_or}
 use Rattle.whole.specs.Double.{to_f64}

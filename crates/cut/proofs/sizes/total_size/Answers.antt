@@ -1,9 +1,9 @@
 -- `cut::sizes::total_size` meets its contract. The loop's invariant: the total is that of the first i sizes.
-use Prim.Native.Nat.{◌-◌, ◌≤◌, ◌<◌}
-use mathlib.Core.Path.{◌≡◌, ap, ap₂, ◌∙◌}
+use Prim.Native.Nat.{◌≤◌, ◌<◌}
+use mathlib.Core.Path.{ap, ap₂, ◌∙◌}
 use native.Mathlib.Omega.{arith}
 use lib.Ieee.{binary64, add}
-use lib.ListN.{length, take}
+use lib.ListN.{length}
 use lib.Seq.{take_all}
 use Rattle.whole.specs.Double.{sum_f64}
 use Rattle.cut.specs.Order.{sizes_in}
@@ -16,7 +16,7 @@ loop-i-init c =
     let a = c.args in (no_size (sizes_in a.sizes.now a.order.now), omega arith)
 
 pub size_at-total-requires : goal.size_at-total-requires
-size_at-total-requires c = record { sized = c.requires; i_in_bounds = c.loop-i-test.true; }
+size_at-total-requires c = record { sized = c.requires; i_in_bounds = c.loop-i-test.true }
 
 pub loop-i-preserved : goal.loop-i-preserved
 loop-i-preserved c =

@@ -1,14 +1,9 @@
 -- `cut::sizes::total_size` meets its contract. The loop's invariant: the total is that of the first i sizes.
-use Prim.Native.Nat.{◌-◌, ◌≤◌, ◌<◌}
-use mathlib.Core.Path.{◌≡◌, ap, ap₂, ◌∙◌}
-use native.Mathlib.Omega.{arith}
-use lib.Ieee.{binary64, add}
+use Prim.Native.Nat.{◌-◌, ◌≤◌}
+use mathlib.Core.Path.{◌≡◌}
 use lib.ListN.{length, take}
-use lib.Seq.{take_all}
 use Rattle.whole.specs.Double.{sum_f64}
 use Rattle.cut.specs.Order.{sizes_in}
-use Rattle.cut.proofs.InOrder.{length_sizes}
-use Rattle.cut.proofs.Totals.{no_size, size_more}
 use Rattle.cut.proofs.sizes.total_size.Given as goal
 
 abbrev pub invariant-loop-i : goal.invariant-loop-i

@@ -1,9 +1,8 @@
 -- `cut::tabled::pick_by_similarity` meets its contract. The loop's invariant: the best is that of the places before i, as the tables have them.
-use Prim.Native.Nat.{◌-◌, ◌≤◌}
-use mathlib.Core.List.{List, foldl, map}
+use Prim.Native.Nat.{◌-◌}
+use mathlib.Core.List.{List, foldl}
 use mathlib.Core.Path.{◌≡◌, refl, sym, ap, ap₂, ◌∙◌}
 use native.Mathlib.Omega.{arith}
-use borrow.Author.Rules.{rules}
 use lib.ListN.{length}
 use Rattle.lists.specs.Range.{range}
 use Rattle.cut.specs.Scan.{considered, chosen_from}

@@ -1,18 +1,12 @@
 -- `cut::tabled::pick_by_similarity` meets its contract. The loop's invariant: the best is that of the places before i, as the tables have them.
 use Prim.Native.Nat.{◌-◌, ◌≤◌}
-use mathlib.Core.List.{List, foldl, map}
-use mathlib.Core.Path.{◌≡◌, refl, sym, ap, ap₂, ◌∙◌}
-use native.Mathlib.Omega.{arith}
-use borrow.Author.Rules.{rules}
+use mathlib.Core.List.{foldl, map}
+use mathlib.Core.Path.{◌≡◌}
 use lib.ListN.{length}
 use Rattle.lists.specs.Range.{range}
-use Rattle.cut.specs.Scan.{considered, chosen_from}
-use Rattle.cut.specs.declared.candidate.Candidate.{Candidate}
-use Rattle.cut.specs.declared.scan.Best.{Best}
+use Rattle.cut.specs.Scan.{considered}
 use Rattle.cut.specs.declared.scan.Best.TheVariants.{Nothing}
-use Rattle.cut.specs.declared.scan.Bounds.{Bounds}
-use Rattle.cut.proofs.Scanning.{scan_cuts, looked_at}
-use Rattle.cut.proofs.FromTables.{candidate_from, places_tabled}
+use Rattle.cut.proofs.FromTables.{candidate_from}
 use Rattle.cut.proofs.tabled.pick_by_similarity.Given as goal
 
 abbrev pub invariant-loop-i : goal.invariant-loop-i

@@ -1,9 +1,8 @@
 -- `division::lowest::clear_lowest` meets its contract: one number more is written a turn.
-use Prim.Native.Nat.{◌-◌}
 use mathlib.Core.Path.{sym}
 use native.Mathlib.Omega.{arith}
-use lib.ListN.{length, replicate, length-replicate, get_or-replicate}
-use Rattle.lists.proofs.Front.{Copied, none_copied, one_written, all_copied}
+use lib.ListN.{length, length-replicate, get_or-replicate}
+use Rattle.lists.proofs.Front.{none_copied, one_written, all_copied}
 use Rattle.division.proofs.lowest.clear_lowest.Goals as goal
 
 pub loop-i-init : goal.loop-i-init

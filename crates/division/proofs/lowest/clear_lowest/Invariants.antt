@@ -1,9 +1,7 @@
 -- `division::lowest::clear_lowest` meets its contract: one number more is written a turn.
 use Prim.Native.Nat.{◌-◌}
-use mathlib.Core.Path.{sym}
-use native.Mathlib.Omega.{arith}
-use lib.ListN.{length, replicate, length-replicate, get_or-replicate}
-use Rattle.lists.proofs.Front.{Copied, none_copied, one_written, all_copied}
+use lib.ListN.{length, replicate}
+use Rattle.lists.proofs.Front.{Copied}
 use Rattle.division.proofs.lowest.clear_lowest.Given as goal
 
 abbrev pub invariant-loop-i : goal.invariant-loop-i

@@ -1,5 +1,5 @@
 -- `division::lowest::find_lowest` meets its contract: one position more is looked at a turn.
-use Prim.Native.Nat.{ℕ, ◌-◌, ◌≤◌}
+use Prim.Native.Nat.{ℕ}
 use mathlib.Core.List.{List}
 use mathlib.Core.Path.{◌≡◌, sym, ap, ap₂, ◌∙◌}
 use native.Mathlib.Omega.{arith}
@@ -8,7 +8,6 @@ use lib.ListN.{length, get_or, replicate, set}
 use Rattle.lists.specs.Least.{earlier}
 use Rattle.division.specs.Divided.{number_at, lowest_ranks}
 use Rattle.division.proofs.LowestRanks.{lowest_none, lowest_more, length_ranks}
-use borrow.Author.Rules.{rules}
 use Rattle.division.proofs.lowest.find_lowest.Goals as goal
 
 pub loop-i-init : goal.loop-i-init

@@ -1,14 +1,8 @@
 -- `division::lowest::find_lowest` meets its contract: one position more is looked at a turn.
-use Prim.Native.Nat.{ℕ, ◌-◌, ◌≤◌}
-use mathlib.Core.List.{List}
-use mathlib.Core.Path.{◌≡◌, sym, ap, ap₂, ◌∙◌}
-use native.Mathlib.Omega.{arith}
-use lib.Dec.{ltb}
-use lib.ListN.{length, get_or, replicate, set}
-use Rattle.lists.specs.Least.{earlier}
-use Rattle.division.specs.Divided.{number_at, lowest_ranks}
-use Rattle.division.proofs.LowestRanks.{lowest_none, lowest_more, length_ranks}
-use borrow.Author.Rules.{rules}
+use Prim.Native.Nat.{◌-◌, ◌≤◌}
+use mathlib.Core.Path.{◌≡◌}
+use lib.ListN.{length}
+use Rattle.division.specs.Divided.{lowest_ranks}
 use Rattle.division.proofs.lowest.find_lowest.Given as goal
 
 abbrev pub invariant-loop-i : goal.invariant-loop-i

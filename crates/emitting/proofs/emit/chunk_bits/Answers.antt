@@ -1,5 +1,4 @@
 -- `emitting::emit::chunk_bits` meets its contract.
-use borrow.Author.Rules.{rules}
 use Rattle.emitting.proofs.emit.chunk_bits.Goals as goal
 
 pub returns : goal.returns

@@ -1,6 +1,5 @@
 -- `emitting::emit::emit_chunk` meets its contract: what the calls write, field by field, is the chunk.
 use mathlib.Core.Path.{ap, ◌∙◌}
-use borrow.Author.Rules.{rules}
 use Rattle.bitset.specs.Rows.{with_row}
 use Rattle.emitting.proofs.Chunk.{written_chunk}
 use Rattle.emitting.proofs.emit.emit_chunk.Goals as goal

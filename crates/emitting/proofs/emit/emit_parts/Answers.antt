@@ -1,11 +1,10 @@
 -- `emitting::emit::emit_parts` meets its contract. The loop's invariant: the areas so far, continued with the parts to come.
-use Prim.Native.Nat.{ℕ, ◌-◌}
+use Prim.Native.Nat.{ℕ}
 use mathlib.Core.List.{List}
 use native.Mathlib.Omega.{arith}
 use lib.Ieee.{Float}
-use lib.ListN.{length}
 use Rattle.emitting.specs.Emitted.{Work}
-use Rattle.emitting.proofs.Turn.{Emitted, none_emitted, part_room, one_emitted, all_emitted}
+use Rattle.emitting.proofs.Turn.{none_emitted, part_room, one_emitted, all_emitted}
 use Rattle.emitting.proofs.emit.emit_parts.Goals as goal
 
 abbrev areas : List ℕ → List ℕ → List ℕ → List Float → List ℕ → List ℕ → Work

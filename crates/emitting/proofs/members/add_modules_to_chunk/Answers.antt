@@ -1,8 +1,7 @@
 -- `emitting::members::add_modules_to_chunk` meets its contract. The loop's invariant: the first i modules have the number.
-use Prim.Native.Nat.{◌≤◌, ◌-◌}
-use mathlib.Core.Path.{◌≡◌, refl, sym, ap, ◌∙◌}
+use mathlib.Core.Path.{refl, sym, ap, ◌∙◌}
 use native.Mathlib.Omega.{arith}
-use lib.ListN.{length, get_or, set, take, length-set}
+use lib.ListN.{get_or, set, length-set}
 use lib.Seq.{take_all}
 use Rattle.emitting.specs.Emitted.{with_number}
 use Rattle.emitting.proofs.OneMore.{number_more}

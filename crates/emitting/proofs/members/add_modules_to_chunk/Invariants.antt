@@ -1,11 +1,8 @@
 -- `emitting::members::add_modules_to_chunk` meets its contract. The loop's invariant: the first i modules have the number.
 use Prim.Native.Nat.{◌≤◌, ◌-◌}
-use mathlib.Core.Path.{◌≡◌, refl, sym, ap, ◌∙◌}
-use native.Mathlib.Omega.{arith}
-use lib.ListN.{length, get_or, set, take, length-set}
-use lib.Seq.{take_all}
+use mathlib.Core.Path.{◌≡◌}
+use lib.ListN.{length, take}
 use Rattle.emitting.specs.Emitted.{with_number}
-use Rattle.emitting.proofs.OneMore.{number_more}
 use Rattle.emitting.proofs.members.add_modules_to_chunk.Given as goal
 
 abbrev pub invariant-loop-i : goal.invariant-loop-i

@@ -1,9 +1,8 @@
 -- `emitting::members::union_of` meets its contract. The loop's invariant: the union of the modules from `left` on.
-use Prim.Native.Nat.{◌≤◌, ◌-◌}
+use Prim.Native.Nat.{◌-◌}
 use mathlib.Core.Path.{◌≡◌, sym, ap, ◌∙◌}
 use native.Mathlib.Omega.{arith}
-use borrow.Author.Rules.{rules}
-use lib.ListN.{length, get_or, drop}
+use lib.ListN.{get_or, drop}
 use lib.Seq.{drop-length}
 use Rattle.bitset.specs.Entries.{union_of, row_of}
 use Rattle.emitting.specs.Emitted.{union_of_modules}

@@ -1,13 +1,8 @@
 -- `emitting::members::union_of` meets its contract. The loop's invariant: the union of the modules from `left` on.
-use Prim.Native.Nat.{◌≤◌, ◌-◌}
-use mathlib.Core.Path.{◌≡◌, sym, ap, ◌∙◌}
-use native.Mathlib.Omega.{arith}
-use borrow.Author.Rules.{rules}
-use lib.ListN.{length, get_or, drop}
-use lib.Seq.{drop-length}
-use Rattle.bitset.specs.Entries.{union_of, row_of}
+use Prim.Native.Nat.{◌≤◌}
+use mathlib.Core.Path.{◌≡◌}
+use lib.ListN.{length, drop}
 use Rattle.emitting.specs.Emitted.{union_of_modules}
-use Rattle.emitting.proofs.OneMore.{union_more}
 use Rattle.emitting.proofs.members.union_of.Given as goal
 
 abbrev pub invariant-loop-left : goal.invariant-loop-left

@@ -1,6 +1,5 @@
 -- `emitting::records::store_fields` meets its contract: the four stores are the contract's.
 use mathlib.Core.Path.{refl}
-use borrow.Author.Rules.{rules}
 use Rattle.emitting.proofs.records.store_fields.Goals as goal
 
 pub returns : goal.returns

@@ -1,11 +1,10 @@
 -- `exec_order::listed::keep_eligible` meets its contract. The loop's invariant: the eligible ones of the first i are kept.
-use Prim.Native.Nat.{ℕ, ◌-◌, ◌≤◌, ◌<◌}
+use Prim.Native.Nat.{ℕ, ◌<◌}
 use mathlib.Core.Bool.{Bool}
 use mathlib.Core.List.{List}
-use mathlib.Core.Logic.{⊎_elim}
 use mathlib.Core.Path.{sym, ◌∙◌, subst, subst₂}
 use native.Mathlib.Omega.{arith}
-use lib.ListN.{length, get_or, take, set}
+use lib.ListN.{length, get_or, set}
 use lib.Seq.{take_all}
 use Rattle.lists.specs.Keep.{keep}
 use Rattle.lists.proofs.KeepLoop.{keep_take_in, keep_take_out}
@@ -40,15 +39,17 @@ loop-i-preserved c =
     let m : ℕ = get_or a.list.now l.i 0 in
     let h : l.i < length a.list.now = omega arith in
     let K : List ℕ → ℕ → Type 0 = λ kept r. Kept kept r a.order.now (set l.order l.count m) in
-    (elim c.if-is_eligible_at.branch [ then-is_eligible_at w ↦ (
-      omega arith,
-      omega arith,
-      subst₂ K (sym (keep_take_in p a.list.now l.i 0 h (sym c.is_eligible_at.ensures ∙ w.if-is_eligible_at.true))) (sym w.count-is)
-          (kept_in l.invariant.2 m (omega arith)),
-    )
-    | else-is_eligible_at w ↦ (
-      omega arith,
-      omega arith,
-      subst₂ K (sym (keep_take_out p a.list.now l.i 0 h (sym c.is_eligible_at.ensures ∙ w.if-is_eligible_at.false))) (sym w.count-is)
-          (kept_out l.invariant.2 m),
-    ) ])
+    (elim c.if-is_eligible_at.branch [
+      | then-is_eligible_at w ↦ (
+        omega arith,
+        omega arith,
+        subst₂ K (sym (keep_take_in p a.list.now l.i 0 h (sym c.is_eligible_at.ensures ∙ w.if-is_eligible_at.true))) (sym w.count-is)
+            (kept_in l.invariant.2 m (omega arith)),
+      )
+      | else-is_eligible_at w ↦ (
+        omega arith,
+        omega arith,
+        subst₂ K (sym (keep_take_out p a.list.now l.i 0 h (sym c.is_eligible_at.ensures ∙ w.if-is_eligible_at.false))) (sym w.count-is)
+            (kept_out l.invariant.2 m),
+      )
+    ])

@@ -1,17 +1,9 @@
 -- `exec_order::listed::keep_eligible` meets its contract. The loop's invariant: the eligible ones of the first i are kept.
-use Prim.Native.Nat.{ℕ, ◌-◌, ◌≤◌, ◌<◌}
-use mathlib.Core.Bool.{Bool}
-use mathlib.Core.List.{List}
-use mathlib.Core.Logic.{⊎_elim}
-use mathlib.Core.Path.{sym, ◌∙◌, subst, subst₂}
-use native.Mathlib.Omega.{arith}
-use lib.ListN.{length, get_or, take, set}
-use lib.Seq.{take_all}
+use Prim.Native.Nat.{◌-◌, ◌≤◌}
+use lib.ListN.{length, take}
 use Rattle.lists.specs.Keep.{keep}
-use Rattle.lists.proofs.KeepLoop.{keep_take_in, keep_take_out}
 use Rattle.flags.specs.Flags.{eligible_at}
 use Rattle.exec_order.specs.Listed.{Kept}
-use Rattle.exec_order.proofs.Keeping.{none_kept, kept_in, kept_out}
 use Rattle.exec_order.proofs.listed.keep_eligible.Given as goal
 
 abbrev pub invariant-loop-i : goal.invariant-loop-i

@@ -1,11 +1,9 @@
 -- `exec_order::listed::list_modules` meets its contract. The loop's invariant: the listed modules below m are kept.
-use Prim.Native.Nat.{ℕ, ◌-◌, ◌≤◌}
+use Prim.Native.Nat.{ℕ}
 use mathlib.Core.Bool.{Bool}
 use mathlib.Core.List.{List}
-use mathlib.Core.Logic.{⊎_elim}
 use mathlib.Core.Path.{◌≡◌, sym, ◌∙◌, subst, subst₂}
 use native.Mathlib.Omega.{arith}
-use borrow.Author.Rules.{rules}
 use lib.ListN.{length, get_or, set}
 use Rattle.lists.specs.Keep.{keep}
 use Rattle.lists.specs.Range.{range}
@@ -37,13 +35,15 @@ loop-m-preserved c =
     let l = c.loop-m in
     let p : ℕ → Bool = λ k. listed (get_or a.flags.now k 0) in
     let K : List ℕ → ℕ → Type 0 = λ kept r. Kept kept r a.list.now (set l.list l.count l.m) in
-    (elim c.if-is_listed.branch [ then-is_listed w ↦ (
-      omega arith,
-      omega arith,
-      subst₂ K (sym (keep_range_in p l.m (sym c.is_listed.ensures ∙ w.if-is_listed.true))) (sym w.count-is) (kept_in l.invariant.2 l.m (omega arith)),
-    )
-    | else-is_listed w ↦ (
-      omega arith,
-      omega arith,
-      subst₂ K (sym (keep_range_out p l.m (sym c.is_listed.ensures ∙ w.if-is_listed.false))) (sym w.count-is) (kept_out l.invariant.2 l.m),
-    ) ])
+    (elim c.if-is_listed.branch [
+      | then-is_listed w ↦ (
+        omega arith,
+        omega arith,
+        subst₂ K (sym (keep_range_in p l.m (sym c.is_listed.ensures ∙ w.if-is_listed.true))) (sym w.count-is) (kept_in l.invariant.2 l.m (omega arith)),
+      )
+      | else-is_listed w ↦ (
+        omega arith,
+        omega arith,
+        subst₂ K (sym (keep_range_out p l.m (sym c.is_listed.ensures ∙ w.if-is_listed.false))) (sym w.count-is) (kept_out l.invariant.2 l.m),
+      )
+    ])

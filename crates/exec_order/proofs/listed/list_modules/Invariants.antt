@@ -1,18 +1,10 @@
 -- `exec_order::listed::list_modules` meets its contract. The loop's invariant: the listed modules below m are kept.
-use Prim.Native.Nat.{ℕ, ◌-◌, ◌≤◌}
-use mathlib.Core.Bool.{Bool}
-use mathlib.Core.List.{List}
-use mathlib.Core.Logic.{⊎_elim}
-use mathlib.Core.Path.{◌≡◌, sym, ◌∙◌, subst, subst₂}
-use native.Mathlib.Omega.{arith}
-use borrow.Author.Rules.{rules}
-use lib.ListN.{length, get_or, set}
+use Prim.Native.Nat.{◌-◌, ◌≤◌}
+use lib.ListN.{length, get_or}
 use Rattle.lists.specs.Keep.{keep}
 use Rattle.lists.specs.Range.{range}
-use Rattle.lists.proofs.KeepLoop.{keep_range_in, keep_range_out}
 use Rattle.flags.specs.Flags.{listed}
-use Rattle.exec_order.specs.Listed.{listed_in, Kept}
-use Rattle.exec_order.proofs.Keeping.{none_kept, kept_in, kept_out}
+use Rattle.exec_order.specs.Listed.{Kept}
 use Rattle.exec_order.proofs.listed.list_modules.Given as goal
 
 abbrev pub invariant-loop-m : goal.invariant-loop-m

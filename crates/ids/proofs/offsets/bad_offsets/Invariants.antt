@@ -1,12 +1,8 @@
 -- `ids::offsets::bad_offsets` meets its contract. The invariant: the test of the offsets from k on gives what the whole test gives.
-use Prim.Native.Nat.{◌≤◌, ◌+◌, ◌-◌}
-use mathlib.Core.Bool.{true, false}
-use mathlib.Core.Path.{◌≡◌, refl, sym, ◌∙◌}
-use native.Mathlib.Omega.{arith}
-use borrow.Author.Rules.{rules}
+use Prim.Native.Nat.{◌≤◌, ◌-◌}
+use mathlib.Core.Path.{◌≡◌}
 use lib.ListN.{length, drop}
 use Rattle.ids.specs.Offsets.{bad_offsets}
-use Rattle.ids.proofs.OffsetTable.{past_end, last_offset, pair, no_offset}
 use Rattle.ids.proofs.offsets.bad_offsets.Given as goal
 
 abbrev pub invariant-loop-k : goal.invariant-loop-k

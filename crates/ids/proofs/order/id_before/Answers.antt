@@ -1,10 +1,7 @@
 -- `ids::order::id_before` meets its contract. The invariant: the ids from byte i on stand as the whole ids do.
-use Prim.Native.Nat.{◌≤◌, ◌-◌}
-use mathlib.Core.Path.{◌≡◌, refl, sym, ◌∙◌}
+use mathlib.Core.Path.{refl, sym, ◌∙◌}
 use native.Mathlib.Nat.{le_antisymm}
 use native.Mathlib.Omega.{arith}
-use lib.ListN.{length, drop}
-use Rattle.ids.specs.Order.{before}
 use Rattle.ids.proofs.ByteOrder.{from_below, from_above, from_same, from_left_done, from_right_done}
 use Rattle.ids.proofs.order.id_before.Goals as goal
 

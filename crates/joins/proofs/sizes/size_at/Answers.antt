@@ -3,7 +3,6 @@ use mathlib.Core.Path.{ap}
 use lib.Ieee.{binary64, of_int}
 use lib.ListN.{get_or}
 use Rattle.joins.proofs.Doubles.{signed_held, as_signed}
-use borrow.Author.Rules.{rules}
 use Rattle.joins.proofs.sizes.size_at.Goals as goal
 
 pub int_to_float-result : goal.int_to_float-result

@@ -1,5 +1,5 @@
 -- `matching::matched::gather_group` meets its contract: where the filter asks nothing, names alone decide.
-use Rattle.std.proofs.Common.{sym, ◌∙◌, rules}
+use Rattle.std.proofs.Common.{sym, ◌∙◌}
 use Rattle.matching.specs.Matched.{Matching}
 use Rattle.matching.proofs.Gathering.{named_keys}
 use Rattle.matching.proofs.matched.gather_group.Goals as goal

@@ -1,8 +1,8 @@
 -- `matching::matched::gather_matched` meets its contract: one place more a turn, if its module takes part.
-use Rattle.std.proofs.Common.{◌≡◌, ◌-◌, ◌<◌, ◌≤◌, length, get_or, sym, ◌∙◌, ⊎_elim, arith}
+use Rattle.std.proofs.Common.{◌≡◌, ◌<◌, length, get_or, sym, ◌∙◌, arith}
 use Rattle.matching.specs.Matched.{Matching, Readable, takes_module}
-use Rattle.matching.proofs.Gathering.{keys_below, keys_none, keys_in, keys_out, keys_all}
-use Rattle.matching.proofs.Writing.{Writing, none_written, one_written, none_stored, has_room}
+use Rattle.matching.proofs.Gathering.{keys_none, keys_in, keys_out, keys_all}
+use Rattle.matching.proofs.Writing.{none_written, one_written, none_stored, has_room}
 use Rattle.matching.proofs.matched.gather_matched.Goals as goal
 use Rattle.matching.proofs.matched.gather_matched.Goals.{then-takes_part, else-takes_part}
 
@@ -19,7 +19,7 @@ overflow_cast-m c =
       sizes = c.args.sizes.now;
       shares = c.args.shares.now;
     })) (get_or c.args.order.now c.loop-i.i 0) =
-        c.requires.readable c.loop-i.i (omega arith) in
+    c.requires.readable c.loop-i.i (omega arith) in
     omega (arith, (readable).answered)
 
 pub offset_bounds-answers-m : goal.offset_bounds-answers-m
@@ -31,7 +31,7 @@ offset_bounds-answers-m c =
       sizes = c.args.sizes.now;
       shares = c.args.shares.now;
     })) (get_or c.args.order.now c.loop-i.i 0) =
-        c.requires.readable c.loop-i.i (omega arith) in
+    c.requires.readable c.loop-i.i (omega arith) in
     omega (arith, (readable).answered)
 
 pub bounds-answers-m : goal.bounds-answers-m
@@ -43,7 +43,7 @@ bounds-answers-m c =
       sizes = c.args.sizes.now;
       shares = c.args.shares.now;
     })) (get_or c.args.order.now c.loop-i.i 0) =
-        c.requires.readable c.loop-i.i (omega arith) in
+    c.requires.readable c.loop-i.i (omega arith) in
     (readable).answered
 
 pub key_of-requires : goal.key_of-requires
@@ -55,21 +55,21 @@ key_of-requires c =
       sizes = c.args.sizes.now;
       shares = c.args.shares.now;
     })) (get_or c.args.order.now c.loop-i.i 0) =
-        c.requires.readable c.loop-i.i (omega arith) in
+    c.requires.readable c.loop-i.i (omega arith) in
     ((readable).name, omega (arith, c.requires.few))
 
 pub offset_bounds-keys-count : goal.offset_bounds-keys-count
 offset_bounds-keys-count c =
     let room : let l = c.loop-i in
     l.count < length l.keys =
-        has_room c.loop-i.invariant.1 (omega (arith, c.requires.room)) in
+    has_room c.loop-i.invariant.1 (omega (arith, c.requires.room)) in
     omega (arith, room)
 
 pub bounds-keys-count : goal.bounds-keys-count
 bounds-keys-count c =
     let room : let l = c.loop-i in
     l.count < length l.keys =
-        has_room c.loop-i.invariant.1 (omega (arith, c.requires.room)) in
+    has_room c.loop-i.invariant.1 (omega (arith, c.requires.room)) in
     room
 
 pub offset_bounds-tags-m : goal.offset_bounds-tags-m
@@ -81,7 +81,7 @@ offset_bounds-tags-m c =
       sizes = c.args.sizes.now;
       shares = c.args.shares.now;
     })) (get_or c.args.order.now c.loop-i.i 0) =
-        c.requires.readable c.loop-i.i (omega arith) in
+    c.requires.readable c.loop-i.i (omega arith) in
     omega (arith, (readable).tagged)
 
 pub bounds-tags-m : goal.bounds-tags-m
@@ -93,7 +93,7 @@ bounds-tags-m c =
       sizes = c.args.sizes.now;
       shares = c.args.shares.now;
     })) (get_or c.args.order.now c.loop-i.i 0) =
-        c.requires.readable c.loop-i.i (omega arith) in
+    c.requires.readable c.loop-i.i (omega arith) in
     (readable).tagged
 
 pub offset_bounds-sizes-m : goal.offset_bounds-sizes-m
@@ -105,7 +105,7 @@ offset_bounds-sizes-m c =
       sizes = c.args.sizes.now;
       shares = c.args.shares.now;
     })) (get_or c.args.order.now c.loop-i.i 0) =
-        c.requires.readable c.loop-i.i (omega arith) in
+    c.requires.readable c.loop-i.i (omega arith) in
     omega (arith, (readable).sized)
 
 pub bounds-sizes-m : goal.bounds-sizes-m
@@ -117,7 +117,7 @@ bounds-sizes-m c =
       sizes = c.args.sizes.now;
       shares = c.args.shares.now;
     })) (get_or c.args.order.now c.loop-i.i 0) =
-        c.requires.readable c.loop-i.i (omega arith) in
+    c.requires.readable c.loop-i.i (omega arith) in
     (readable).sized
 
 pub offset_bounds-shares-m : goal.offset_bounds-shares-m
@@ -129,7 +129,7 @@ offset_bounds-shares-m c =
       sizes = c.args.sizes.now;
       shares = c.args.shares.now;
     })) (get_or c.args.order.now c.loop-i.i 0) =
-        c.requires.readable c.loop-i.i (omega arith) in
+    c.requires.readable c.loop-i.i (omega arith) in
     omega (arith, (readable).shared)
 
 pub bounds-shares-m : goal.bounds-shares-m
@@ -141,7 +141,7 @@ bounds-shares-m c =
       sizes = c.args.sizes.now;
       shares = c.args.shares.now;
     })) (get_or c.args.order.now c.loop-i.i 0) =
-        c.requires.readable c.loop-i.i (omega arith) in
+    c.requires.readable c.loop-i.i (omega arith) in
     (readable).shared
 
 pub takes_part-requires : goal.takes_part-requires
@@ -153,14 +153,14 @@ takes_part-requires c =
       sizes = c.args.sizes.now;
       shares = c.args.shares.now;
     })) (get_or c.args.order.now c.loop-i.i 0) =
-        c.requires.readable c.loop-i.i (omega arith) in
+    c.requires.readable c.loop-i.i (omega arith) in
     (readable).whole
 
 pub overflow_add-count : goal.overflow_add-count
 overflow_add-count c =
     let room : let l = c.loop-i in
     l.count < length l.keys =
-        has_room c.loop-i.invariant.1 (omega (arith, c.requires.room)) in
+    has_room c.loop-i.invariant.1 (omega (arith, c.requires.room)) in
     omega (arith, room)
 
 pub shape_of-keys : goal.shape_of-keys
@@ -195,6 +195,8 @@ loop-i-preserved c =
     let r : l.i < length c.args.keys.now = omega (arith, c.requires.room) in
     let q = sym asked in (
       omega arith,
-      elim c.if-takes_part.branch [ then-takes_part w ↦ rw w.count-is (one_written l.invariant.1 k.result (keys_in g o l.i k.result k.ensures (q ∙ w.if-takes_part.true)) r)
-      | else-takes_part w ↦ rw w.count-is (none_stored l.invariant.1 k.result (keys_out g o l.i (q ∙ w.if-takes_part.false))) ],
+      elim c.if-takes_part.branch [
+        | then-takes_part w ↦ rw w.count-is (one_written l.invariant.1 k.result (keys_in g o l.i k.result k.ensures (q ∙ w.if-takes_part.true)) r)
+        | else-takes_part w ↦ rw w.count-is (none_stored l.invariant.1 k.result (keys_out g o l.i (q ∙ w.if-takes_part.false)))
+      ],
     )

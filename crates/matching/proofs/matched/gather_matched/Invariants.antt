@@ -1,8 +1,8 @@
 -- `matching::matched::gather_matched` meets its contract: one place more a turn, if its module takes part.
-use Rattle.std.proofs.Common.{◌≡◌, ◌-◌, ◌<◌, ◌≤◌, length, get_or, sym, ◌∙◌, ⊎_elim, arith}
-use Rattle.matching.specs.Matched.{Matching, Readable, takes_module}
-use Rattle.matching.proofs.Gathering.{keys_below, keys_none, keys_in, keys_out, keys_all}
-use Rattle.matching.proofs.Writing.{Writing, none_written, one_written, none_stored, has_room}
+use Rattle.std.proofs.Common.{◌-◌, ◌≤◌, length}
+use Rattle.matching.specs.Matched.{Matching}
+use Rattle.matching.proofs.Gathering.{keys_below}
+use Rattle.matching.proofs.Writing.{Writing}
 use Rattle.matching.proofs.matched.gather_matched.Given as goal
 
 abbrev pub invariant-loop-i : goal.invariant-loop-i

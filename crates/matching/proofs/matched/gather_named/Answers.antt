@@ -1,9 +1,9 @@
 -- `matching::matched::gather_named` meets its contract: one place more a turn, if its module has a name.
-use Rattle.std.proofs.Common.{◌≡◌, ◌-◌, ◌<◌, ◌≤◌, length, get_or, ◌∙◌, ⊎_elim, arith, le-leb}
+use Rattle.std.proofs.Common.{◌≡◌, ◌<◌, length, get_or, ◌∙◌, arith, le-leb}
 use borrow.Author.Tests.{lt-leb}
 use Rattle.matching.specs.Matched.{named_only}
-use Rattle.matching.proofs.Gathering.{keys_below, keys_none, keys_in, keys_out, keys_all, takes_by_name, nothing_asked}
-use Rattle.matching.proofs.Writing.{Writing, none_written, one_written, none_stored, has_room}
+use Rattle.matching.proofs.Gathering.{keys_none, keys_in, keys_out, keys_all, takes_by_name, nothing_asked}
+use Rattle.matching.proofs.Writing.{none_written, one_written, none_stored, has_room}
 use Rattle.matching.proofs.matched.gather_named.Goals as goal
 use Rattle.matching.proofs.matched.gather_named.Goals.{else-answer-ge2, then-answer-ge2}
 
@@ -14,19 +14,19 @@ loop-place-init c =
 pub overflow_cast-answer : goal.overflow_cast-answer
 overflow_cast-answer c =
     let answered : get_or c.args.order.now c.loop-place.place 0 < length c.args.answers.now =
-        c.requires.answered c.loop-place.place (omega arith) in
+    c.requires.answered c.loop-place.place (omega arith) in
     omega (arith, answered)
 
 pub offset_bounds-answers-order : goal.offset_bounds-answers-order
 offset_bounds-answers-order c =
     let answered : get_or c.args.order.now c.loop-place.place 0 < length c.args.answers.now =
-        c.requires.answered c.loop-place.place (omega arith) in
+    c.requires.answered c.loop-place.place (omega arith) in
     omega (arith, answered)
 
 pub bounds-answers-order : goal.bounds-answers-order
 bounds-answers-order c =
     let answered : get_or c.args.order.now c.loop-place.place 0 < length c.args.answers.now =
-        c.requires.answered c.loop-place.place (omega arith) in
+    c.requires.answered c.loop-place.place (omega arith) in
     answered
 
 pub key_of-requires : goal.key_of-requires
@@ -37,21 +37,21 @@ pub offset_bounds-keys-count : goal.offset_bounds-keys-count
 offset_bounds-keys-count c =
     let room : let l = c.loop-place in
     l.count < length l.keys =
-        has_room c.loop-place.invariant.1 (omega (arith, c.requires.room)) in
+    has_room c.loop-place.invariant.1 (omega (arith, c.requires.room)) in
     omega (arith, room)
 
 pub bounds-keys-count : goal.bounds-keys-count
 bounds-keys-count c =
     let room : let l = c.loop-place in
     l.count < length l.keys =
-        has_room c.loop-place.invariant.1 (omega (arith, c.requires.room)) in
+    has_room c.loop-place.invariant.1 (omega (arith, c.requires.room)) in
     room
 
 pub overflow_add-count : goal.overflow_add-count
 overflow_add-count c =
     let room : let l = c.loop-place in
     l.count < length l.keys =
-        has_room c.loop-place.invariant.1 (omega (arith, c.requires.room)) in
+    has_room c.loop-place.invariant.1 (omega (arith, c.requires.room)) in
     omega (arith, room)
 
 pub shape_of-keys : goal.shape_of-keys
@@ -74,6 +74,8 @@ loop-place-preserved c =
     let r : l.place < length c.args.keys.now = omega (arith, c.requires.room) in
     let q = takes_by_name g m nothing_asked in (
       omega arith,
-      (elim c.if-answer-ge2.branch [ then-answer-ge2 w ↦ rw w.count-is (one_written l.invariant.1 k.result (keys_in g o l.place k.result k.ensures (q ∙ le-leb 2 answer w.if-answer-ge2.true)) r)
-    | else-answer-ge2 w ↦ rw w.count-is (none_stored l.invariant.1 k.result (keys_out g o l.place (q ∙ lt-leb 2 answer w.if-answer-ge2.false))) ]),
+      (elim c.if-answer-ge2.branch [
+        | then-answer-ge2 w ↦ rw w.count-is (one_written l.invariant.1 k.result (keys_in g o l.place k.result k.ensures (q ∙ le-leb 2 answer w.if-answer-ge2.true)) r)
+        | else-answer-ge2 w ↦ rw w.count-is (none_stored l.invariant.1 k.result (keys_out g o l.place (q ∙ lt-leb 2 answer w.if-answer-ge2.false)))
+      ]),
     )

@@ -1,9 +1,8 @@
 -- `matching::matched::gather_named` meets its contract: one place more a turn, if its module has a name.
-use Rattle.std.proofs.Common.{◌≡◌, ◌-◌, ◌<◌, ◌≤◌, length, get_or, ◌∙◌, ⊎_elim, arith, le-leb}
-use borrow.Author.Tests.{lt-leb}
+use Rattle.std.proofs.Common.{◌-◌, ◌≤◌, length}
 use Rattle.matching.specs.Matched.{named_only}
-use Rattle.matching.proofs.Gathering.{keys_below, keys_none, keys_in, keys_out, keys_all, takes_by_name, nothing_asked}
-use Rattle.matching.proofs.Writing.{Writing, none_written, one_written, none_stored, has_room}
+use Rattle.matching.proofs.Gathering.{keys_below}
+use Rattle.matching.proofs.Writing.{Writing}
 use Rattle.matching.proofs.matched.gather_named.Given as goal
 
 abbrev pub invariant-loop-place : goal.invariant-loop-place

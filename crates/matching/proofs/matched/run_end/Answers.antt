@@ -14,6 +14,7 @@ module _ (matched : List ℕ) (from : ℕ) where
   to_end : Together matched → key_at matched (length matched - 1) ≡ key_at matched from
       → (i : ℕ) → from ≤ i → i < length matched → key_at matched i ≡ key_at matched from
   to_end together e i h b = together from i (length matched - 1) h (omega arith) (omega arith) e
+
   -- it has another key, so that one with the key is not the last
   not_last : key_at matched (length matched - 1) ≢ key_at matched from
       → (i : ℕ) → i < length matched → key_at matched i ≡ key_at matched from → i + 1 < length matched
@@ -21,6 +22,7 @@ module _ (matched : List ℕ) (from : ℕ) where
     where
       after : i + 1 ≤ length matched
       after = omega arith
+
       place : i + 1 ≡ length matched → length matched - 1 ≡ i
       place q = omega arith
 
@@ -47,7 +49,7 @@ pub loop-end-preserved : goal.loop-end-preserved
 loop-end-preserved c =
     let longer : let s = c.args in
     (i : ℕ) → s.from ≤ i → i < c.loop-end.end + 1 → key_at s.matched.now i ≡ key_at s.matched.now s.from =
-        λ i h b. let s = c.args in
+    λ i h b. let s = c.args in
     let l = c.loop-end in
     let g : i ≤ l.end = omega arith in
     ⊎_elim (λ e. ap (key_at s.matched.now) e ∙ c.loop-end-test.true) (λ u. l.invariant.2 i h u) (eq-or-lt_of_le g) in

@@ -1,8 +1,7 @@
 -- `matching::matched::run_end` meets its contract. The loop's invariant: from the start on all have the key of the first. The last number has
 -- another key, so that none of them is the last.
-use Rattle.std.proofs.Common.{◌≡◌, ℕ, ◌+◌, ◌-◌, ◌<◌, ◌≤◌, ◌≢◌, List, length, get_or, refl, ap, ◌∙◌, ⊎_elim, eq-or-lt_of_le, arith}
+use Rattle.std.proofs.Common.{◌≡◌, ℕ, ◌-◌, ◌<◌, ◌≤◌, length, get_or}
 use Rattle.lists.specs.Packed.{key_of}
-use Rattle.matching.specs.Matched.{Together}
 use Rattle.matching.proofs.matched.run_end.Given as goal
 
 abbrev pub invariant-loop-end : goal.invariant-loop-end

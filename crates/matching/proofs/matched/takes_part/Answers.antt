@@ -1,5 +1,5 @@
 -- `matching::matched::takes_part` meets its contract: an answer below 2 has no name, and any other leaves it to the filter.
-use Rattle.std.proofs.Common.{rules, le-leb}
+use Rattle.std.proofs.Common.{le-leb}
 use borrow.Author.Tests.{lt-leb}
 use Rattle.matching.specs.Matched.{takes}
 use Rattle.matching.proofs.matched.takes_part.Goals as goal

@@ -7,7 +7,7 @@ pub store-requires : goal.store-requires
 store-requires c =
     let fits = united_fits (held c.args.seeker) (held c.args.target) c.args.numbers.now c.args.sizes.now c.args.bits.now c.requires
     (held c.joined_to.result) c.joined_to.ensures in
-    record { in_row = fits.0; size_value = fits.1; }
+    record { in_row = fits.0; size_value = fits.1 }
 
 pub store-requires-2 : goal.store-requires-2
 store-requires-2 c =
@@ -15,7 +15,7 @@ store-requires-2 c =
     let fits = vanished_fits (held c.args.seeker) (held c.args.target) c.args.numbers.now c.args.sizes.now c.args.bits.now c.requires
     (held c.joined_to.result) c.joined_to.ensures st.new.sizes st.new.bits st.ensures.0 st.ensures.1
     (held c.vanished.result) c.vanished.ensures in
-    record { in_row = fits.0; size_value = fits.1; }
+    record { in_row = fits.0; size_value = fits.1 }
 
 pub returns : goal.returns
 returns c =

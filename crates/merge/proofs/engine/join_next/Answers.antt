@@ -45,7 +45,7 @@ pub subgroup_at-joining-requires : goal.subgroup_at-joining-requires
 subgroup_at-joining-requires c =
     let a = c.args in
     let row = seeker_row a.threshold a.numbers.now a.sizes.now a.bits.now a.there.now a.heads.now c.requires.0 c.requires.1 c.requires.2
-    c.find_seeker-seeker.result c.find_seeker-seeker.ensures (not-false _ c.if-not-seeker.false) in record { in_row = row.1; i_bound = row.2; }
+    c.find_seeker-seeker.result c.find_seeker-seeker.ensures (not-false _ c.if-not-seeker.false) in record { in_row = row.1; i_bound = row.2 }
 
 pub overflow_cast-from : goal.overflow_cast-from
 overflow_cast-from c =
@@ -66,7 +66,7 @@ find_target-target-requires c =
     let a = c.args in
     let gone : (take (length c.remove.new.list - 1) c.remove.new.list ≡ but_one c.find_seeker-seeker.result.candidate.number c.args.there.now)
     × FirstWords (take (length c.remove.new.list - 1) c.remove.new.list) c.remove.new.words c.args.bits.now =
-        seeker_removed a.threshold a.numbers.now a.sizes.now a.bits.now a.there.now a.heads.now c.requires.0 c.requires.1 c.requires.2
+    seeker_removed a.threshold a.numbers.now a.sizes.now a.bits.now a.there.now a.heads.now c.requires.0 c.requires.1 c.requires.2
     c.find_seeker-seeker.result c.find_seeker-seeker.ensures (not-false _ c.if-not-seeker.false)
     a.words.now c.remove.new.list c.remove.new.words c.requires.3 c.requires.4 c.remove.auto.list c.remove.auto.words c.remove.ensures in
     reads_left a.threshold a.numbers.now a.sizes.now a.bits.now a.there.now a.heads.now c.requires.0 c.requires.1 c.requires.2
@@ -78,7 +78,7 @@ returns-then-not-target c =
     let a = c.args in
     let gone : (take (length c.remove.new.list - 1) c.remove.new.list ≡ but_one c.find_seeker-seeker.result.candidate.number c.args.there.now)
     × FirstWords (take (length c.remove.new.list - 1) c.remove.new.list) c.remove.new.words c.args.bits.now =
-        seeker_removed a.threshold a.numbers.now a.sizes.now a.bits.now a.there.now a.heads.now c.requires.0 c.requires.1 c.requires.2
+    seeker_removed a.threshold a.numbers.now a.sizes.now a.bits.now a.there.now a.heads.now c.requires.0 c.requires.1 c.requires.2
     c.find_seeker-seeker.result c.find_seeker-seeker.ensures (not-false _ c.if-not-seeker.false)
     a.words.now c.remove.new.list c.remove.new.words c.requires.3 c.requires.4 c.remove.auto.list c.remove.auto.words c.remove.ensures in
     turn_without_target a.threshold a.numbers.now a.sizes.now a.bits.now a.there.now a.heads.now c.requires.0 c.requires.1 c.requires.2
@@ -91,21 +91,21 @@ subgroup_at-joined-requires c =
     let a = c.args in
     let gone : (take (length c.remove.new.list - 1) c.remove.new.list ≡ but_one c.find_seeker-seeker.result.candidate.number c.args.there.now)
     × FirstWords (take (length c.remove.new.list - 1) c.remove.new.list) c.remove.new.words c.args.bits.now =
-        seeker_removed a.threshold a.numbers.now a.sizes.now a.bits.now a.there.now a.heads.now c.requires.0 c.requires.1 c.requires.2
+    seeker_removed a.threshold a.numbers.now a.sizes.now a.bits.now a.there.now a.heads.now c.requires.0 c.requires.1 c.requires.2
     c.find_seeker-seeker.result c.find_seeker-seeker.ensures (not-false _ c.if-not-seeker.false)
     a.words.now c.remove.new.list c.remove.new.words c.requires.3 c.requires.4 c.remove.auto.list c.remove.auto.words c.remove.ensures in
     let row = target_row a.threshold a.numbers.now a.sizes.now a.bits.now a.there.now a.heads.now c.requires.0 c.requires.1 c.requires.2
     c.find_seeker-seeker.result c.find_seeker-seeker.ensures (not-false _ c.if-not-seeker.false)
     (held c.subgroup_at-joining.result) c.subgroup_at-joining.ensures _ gone.0
     c.find_target-target.result c.find_target-target.ensures (not-false _ c.if-not-target.false) in
-    record { in_row = row.0; i_bound = row.1; }
+    record { in_row = row.0; i_bound = row.1 }
 
 pub join-requires : goal.join-requires
 join-requires c =
     let a = c.args in
     let gone : (take (length c.remove.new.list - 1) c.remove.new.list ≡ but_one c.find_seeker-seeker.result.candidate.number c.args.there.now)
     × FirstWords (take (length c.remove.new.list - 1) c.remove.new.list) c.remove.new.words c.args.bits.now =
-        seeker_removed a.threshold a.numbers.now a.sizes.now a.bits.now a.there.now a.heads.now c.requires.0 c.requires.1 c.requires.2
+    seeker_removed a.threshold a.numbers.now a.sizes.now a.bits.now a.there.now a.heads.now c.requires.0 c.requires.1 c.requires.2
     c.find_seeker-seeker.result c.find_seeker-seeker.ensures (not-false _ c.if-not-seeker.false)
     a.words.now c.remove.new.list c.remove.new.words c.requires.3 c.requires.4 c.remove.auto.list c.remove.auto.words c.remove.ensures in
     join_fits a.threshold a.numbers.now a.sizes.now a.bits.now a.there.now a.heads.now c.requires.0 c.requires.1 c.requires.2
@@ -118,7 +118,7 @@ rewrite_word-requires c =
     let a = c.args in
     let gone : (take (length c.remove.new.list - 1) c.remove.new.list ≡ but_one c.find_seeker-seeker.result.candidate.number c.args.there.now)
     × FirstWords (take (length c.remove.new.list - 1) c.remove.new.list) c.remove.new.words c.args.bits.now =
-        seeker_removed a.threshold a.numbers.now a.sizes.now a.bits.now a.there.now a.heads.now c.requires.0 c.requires.1 c.requires.2
+    seeker_removed a.threshold a.numbers.now a.sizes.now a.bits.now a.there.now a.heads.now c.requires.0 c.requires.1 c.requires.2
     c.find_seeker-seeker.result c.find_seeker-seeker.ensures (not-false _ c.if-not-seeker.false)
     a.words.now c.remove.new.list c.remove.new.words c.requires.3 c.requires.4 c.remove.auto.list c.remove.auto.words c.remove.ensures in
     let fits = rewrite_fits a.threshold a.numbers.now a.sizes.now a.bits.now a.there.now a.heads.now c.requires.0 c.requires.1 c.requires.2
@@ -133,7 +133,7 @@ refresh-requires c =
     let a = c.args in
     let gone : (take (length c.remove.new.list - 1) c.remove.new.list ≡ but_one c.find_seeker-seeker.result.candidate.number c.args.there.now)
     × FirstWords (take (length c.remove.new.list - 1) c.remove.new.list) c.remove.new.words c.args.bits.now =
-        seeker_removed a.threshold a.numbers.now a.sizes.now a.bits.now a.there.now a.heads.now c.requires.0 c.requires.1 c.requires.2
+    seeker_removed a.threshold a.numbers.now a.sizes.now a.bits.now a.there.now a.heads.now c.requires.0 c.requires.1 c.requires.2
     c.find_seeker-seeker.result c.find_seeker-seeker.ensures (not-false _ c.if-not-seeker.false)
     a.words.now c.remove.new.list c.remove.new.words c.requires.3 c.requires.4 c.remove.auto.list c.remove.auto.words c.remove.ensures in
     let fits = refresh_fits a.threshold a.numbers.now a.sizes.now a.bits.now a.there.now a.heads.now c.requires.0 c.requires.1 c.requires.2
@@ -148,7 +148,7 @@ refresh-requires-2 c =
     let a = c.args in
     let gone : (take (length c.remove.new.list - 1) c.remove.new.list ≡ but_one c.find_seeker-seeker.result.candidate.number c.args.there.now)
     × FirstWords (take (length c.remove.new.list - 1) c.remove.new.list) c.remove.new.words c.args.bits.now =
-        seeker_removed a.threshold a.numbers.now a.sizes.now a.bits.now a.there.now a.heads.now c.requires.0 c.requires.1 c.requires.2
+    seeker_removed a.threshold a.numbers.now a.sizes.now a.bits.now a.there.now a.heads.now c.requires.0 c.requires.1 c.requires.2
     c.find_seeker-seeker.result c.find_seeker-seeker.ensures (not-false _ c.if-not-seeker.false)
     a.words.now c.remove.new.list c.remove.new.words c.requires.3 c.requires.4 c.remove.auto.list c.remove.auto.words c.remove.ensures in
     let fits = refresh_fits a.threshold a.numbers.now a.sizes.now a.bits.now a.there.now a.heads.now c.requires.0 c.requires.1 c.requires.2
@@ -163,7 +163,7 @@ returns c =
     let a = c.args in
     let gone : (take (length c.remove.new.list - 1) c.remove.new.list ≡ but_one c.find_seeker-seeker.result.candidate.number c.args.there.now)
     × FirstWords (take (length c.remove.new.list - 1) c.remove.new.list) c.remove.new.words c.args.bits.now =
-        seeker_removed a.threshold a.numbers.now a.sizes.now a.bits.now a.there.now a.heads.now c.requires.0 c.requires.1 c.requires.2
+    seeker_removed a.threshold a.numbers.now a.sizes.now a.bits.now a.there.now a.heads.now c.requires.0 c.requires.1 c.requires.2
     c.find_seeker-seeker.result c.find_seeker-seeker.ensures (not-false _ c.if-not-seeker.false)
     a.words.now c.remove.new.list c.remove.new.words c.requires.3 c.requires.4 c.remove.auto.list c.remove.auto.words c.remove.ensures in
     turn_with_join a.threshold a.numbers.now a.sizes.now a.bits.now a.there.now a.heads.now c.requires.0 c.requires.1 c.requires.2

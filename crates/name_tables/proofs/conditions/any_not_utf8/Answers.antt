@@ -1,13 +1,7 @@
 -- `name_tables::conditions::any_not_utf8` meets its contract. The invariant: the test of the names from k on gives what the whole test gives.
-use Prim.Native.Nat.{◌≤◌, ◌-◌}
-use mathlib.Core.Path.{◌≡◌, refl, sym, ap, ◌∙◌}
+use mathlib.Core.Path.{refl, sym, ap, ◌∙◌}
 use native.Mathlib.Omega.{arith}
-use borrow.Author.Rules.{rules}
-use borrow.Author.Tests.{not-true, not-false}
-use lib.ListN.{drop}
 use Rattle.utf8.specs.Utf8.{utf8}
-use Rattle.name_tables.specs.Names.{names_of}
-use Rattle.name_tables.specs.Conditions.{any_not_utf8}
 use Rattle.name_tables.proofs.NamesFrom.{name_in_table, all_utf8, one_name}
 use Rattle.name_tables.proofs.conditions.any_not_utf8.Goals as goal
 

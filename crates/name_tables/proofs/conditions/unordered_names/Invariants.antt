@@ -1,14 +1,9 @@
 -- `name_tables::conditions::unordered_names` meets its contract. The invariant: the test of the names from k on gives what the whole test gives.
-use Prim.Native.Nat.{◌≤◌, ◌+◌, ◌-◌}
-use mathlib.Core.Path.{◌≡◌, refl, sym, ap₂, ◌∙◌}
-use native.Mathlib.Omega.{arith}
-use borrow.Author.Rules.{rules}
-use borrow.Author.Tests.{not-true, not-false}
+use Prim.Native.Nat.{◌≤◌, ◌-◌}
+use mathlib.Core.Path.{◌≡◌}
 use lib.ListN.{drop}
-use Rattle.ids.specs.Order.{before}
 use Rattle.name_tables.specs.Names.{names_of}
 use Rattle.name_tables.specs.Conditions.{unordered}
-use Rattle.name_tables.proofs.NamesFrom.{name_in_table, all_ordered, one_pair}
 use Rattle.name_tables.proofs.conditions.unordered_names.Given as goal
 
 abbrev pub invariant-loop-k : goal.invariant-loop-k

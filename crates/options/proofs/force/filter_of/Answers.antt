@@ -1,5 +1,4 @@
 -- `options::force::filter_of` meets its contract: each field is what its call ensures.
-use borrow.Author.Rules.{rules}
 use Rattle.options.proofs.force.filter_of.Goals as goal
 
 pub returns : goal.returns

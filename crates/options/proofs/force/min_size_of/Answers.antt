@@ -1,6 +1,5 @@
 -- `options::force::min_size_of` meets its contract: in each arm the definition computes at the arm's constructor.
 use mathlib.Core.Path.{sym, ap}
-use borrow.Author.Rules.{rules}
 use lib.Ieee.{of_bits, of_int}
 use Rattle.options.specs.Force.{min_size_of}
 use Rattle.options.proofs.force.min_size_of.Goals as goal

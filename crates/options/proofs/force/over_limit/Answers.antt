@@ -1,6 +1,5 @@
 -- `options::force::over_limit` meets its contract: in each arm the definition computes at the arm's constructor.
 use mathlib.Core.Path.{sym, ap}
-use borrow.Author.Rules.{rules}
 use Rattle.limit.specs.declared.Limit.{Limit}
 use Rattle.options.specs.Force.{over_limit}
 use Rattle.options.proofs.force.over_limit.Goals as goal

@@ -1,6 +1,5 @@
 -- `options::force::over_shares` meets its contract: in each arm the definition computes at the arm's constructor.
 use mathlib.Core.Path.{sym, ap}
-use borrow.Author.Rules.{rules}
 use Rattle.filter.specs.declared.MinShareCount.{MinShareCount}
 use Rattle.options.specs.Force.{over_shares}
 use Rattle.options.proofs.force.over_shares.Goals as goal

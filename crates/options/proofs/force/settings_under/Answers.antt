@@ -1,5 +1,4 @@
 -- `options::force::settings_under` meets its contract: each field is what its call ensures.
-use borrow.Author.Rules.{rules}
 use Rattle.options.proofs.force.settings_under.Goals as goal
 
 pub returns : goal.returns

@@ -1,6 +1,5 @@
 -- `options::nan::nan_group` meets its contract: the first part that is NaN decides.
 use mathlib.Core.Path.{sym, ◌∙◌}
-use borrow.Author.Rules.{rules}
 use Rattle.options.specs.Nan.{nan_group}
 use Rattle.options.proofs.nan.nan_group.Goals as goal
 

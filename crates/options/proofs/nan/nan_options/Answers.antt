@@ -1,6 +1,5 @@
 -- `options::nan::nan_options` meets its contract: the first limit that is NaN decides.
 use mathlib.Core.Path.{sym, ◌∙◌}
-use borrow.Author.Rules.{rules}
 use Rattle.options.specs.Nan.{nan_options}
 use Rattle.options.proofs.nan.nan_options.Goals as goal
 

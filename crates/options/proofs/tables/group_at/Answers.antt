@@ -1,6 +1,5 @@
 -- `options::tables::group_at` meets its contract: each field is a read of its table or what its call ensures.
 use native.Mathlib.Omega.{arith}
-use borrow.Author.Rules.{rules}
 use Rattle.options.proofs.GroupRead.{group_read_lem}
 use Rattle.options.proofs.tables.group_at.Goals as goal
 

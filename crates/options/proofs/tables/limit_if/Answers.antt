@@ -1,5 +1,4 @@
 -- `options::tables::limit_if` meets its contract: the definition computes at the bool that the branch tested.
-use borrow.Author.Rules.{rules}
 use Rattle.options.proofs.tables.limit_if.Goals as goal
 
 pub returns-then-given : goal.returns-then-given

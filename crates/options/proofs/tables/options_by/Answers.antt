@@ -1,5 +1,4 @@
 -- `options::tables::options_by` meets its contract: each field is what its call ensures.
-use borrow.Author.Rules.{rules}
 use Rattle.options.specs.Tables.{options_by}
 use Rattle.options.proofs.tables.options_by.Goals as goal
 

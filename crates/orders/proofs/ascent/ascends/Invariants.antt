@@ -1,10 +1,7 @@
 -- `orders::ascent::ascends` meets its contract. The loop's invariant: no number before `from` is followed by a lower one.
 use Prim.Native.Nat.{◌-◌, ◌≤◌}
-use mathlib.Core.Bool.{not}
-use mathlib.Core.Path.{sym, ap, ◌∙◌}
-use native.Mathlib.Omega.{arith}
 use lib.ListN.{length}
-use Rattle.orders.proofs.BlockOrder.{RisesTo, rises_none, rises_next, few_ascend, fall_descends, rest_decides}
+use Rattle.orders.proofs.BlockOrder.{RisesTo}
 use Rattle.orders.proofs.ascent.ascends.Given as goal
 
 abbrev pub invariant-loop-from : goal.invariant-loop-from

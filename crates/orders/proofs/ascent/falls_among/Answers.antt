@@ -1,5 +1,4 @@
 -- `orders::ascent::falls_among` meets its contract. The loop's invariant: whether one of the numbers passed is followed by a lower one.
-use Prim.Native.Nat.{◌-◌, ◌≤◌}
 use mathlib.Core.Path.{◌≡◌, ◌∙◌, ap}
 use native.Mathlib.Omega.{arith}
 use Rattle.orders.specs.Ascending.{falls, falls_among}

@@ -1,9 +1,7 @@
 -- `orders::ascent::falls_among` meets its contract. The loop's invariant: whether one of the numbers passed is followed by a lower one.
 use Prim.Native.Nat.{◌-◌, ◌≤◌}
-use mathlib.Core.Path.{◌≡◌, ◌∙◌, ap}
-use native.Mathlib.Omega.{arith}
-use Rattle.orders.specs.Ascending.{falls, falls_among}
-use Rattle.orders.proofs.BlockOrder.{among_none, among_next}
+use mathlib.Core.Path.{◌≡◌}
+use Rattle.orders.specs.Ascending.{falls_among}
 use Rattle.orders.proofs.ascent.falls_among.Given as goal
 
 abbrev pub invariant-loop-i : goal.invariant-loop-i

@@ -1,8 +1,6 @@
 -- A number that does not seek is not ahead; of two that seek the first in the order is.
 use mathlib.Core.Bool.{true, false}
 use mathlib.Core.Path.{◌≡◌, sym, ap, ap₂, ◌∙◌}
-use borrow.Author.Rules.{rules}
-use borrow.Author.Tests.{not-true, not-false}
 use Rattle.joins.specs.Candidate.{seeking, comes_first}
 use Rattle.seeking.specs.Seekers.{seeks_at, seeks_before, ahead}
 use Rattle.seeking.proofs.heads.ahead.Goals as goal

@@ -1,9 +1,7 @@
 -- The invariant: the first j heads stand for their blocks. The measure is the heads left.
-use Prim.Native.Nat.{ℕ, ◌-◌, ◌≤◌, ◌<◌}
-use mathlib.Core.Path.{◌≡◌, refl, ◌∙◌}
+use mathlib.Core.Path.{refl, ◌∙◌}
 use native.Mathlib.Omega.{arith}
-use lib.ListN.{length, get_or, length-set}
-use Rattle.seeking.specs.Seekers.{StandsFor}
+use lib.ListN.{length-set}
 use Rattle.seeking.proofs.Blocks.{one_more_head}
 use Rattle.seeking.proofs.heads.fill_heads.Goals as goal
 
@@ -24,8 +22,7 @@ loop-j-smaller c = simp length-set (omega arith)
 
 pub loop-j-preserved : goal.loop-j-preserved
 loop-j-preserved c =
-    let l = c.loop-j in
-    (
+    let l = c.loop-j in (
       simp length-set (omega arith),
       length-set l.heads l.j c.head_of-head.result ∙ l.invariant.1,
       one_more_head c.args.threshold c.args.sizes.now l.heads l.j c.head_of-head.result (omega arith) c.head_of-head.ensures l.invariant.2,

@@ -1,10 +1,8 @@
 -- The invariant: the first j heads stand for their blocks. The measure is the heads left.
 use Prim.Native.Nat.{ℕ, ◌-◌, ◌≤◌, ◌<◌}
-use mathlib.Core.Path.{◌≡◌, refl, ◌∙◌}
-use native.Mathlib.Omega.{arith}
-use lib.ListN.{length, get_or, length-set}
+use mathlib.Core.Path.{◌≡◌}
+use lib.ListN.{length, get_or}
 use Rattle.seeking.specs.Seekers.{StandsFor}
-use Rattle.seeking.proofs.Blocks.{one_more_head}
 use Rattle.seeking.proofs.heads.fill_heads.Given as goal
 
 abbrev pub invariant-loop-j : goal.invariant-loop-j

@@ -1,7 +1,7 @@
 -- The invariant: `best` stands for the numbers of the block below i. The measure is the numbers left.
-use Prim.Native.Nat.{◌*◌, ◌-◌, ◌≤◌}
+use Prim.Native.Nat.{◌*◌}
 use native.Mathlib.Omega.{arith}
-use Rattle.seeking.proofs.Blocks.{LookedThrough, looked_first, looked_more, looked_all}
+use Rattle.seeking.proofs.Blocks.{looked_first, looked_more, looked_all}
 use Rattle.seeking.proofs.heads.head_of.Goals as goal
 
 pub loop-i-init : goal.loop-i-init

@@ -1,7 +1,6 @@
 -- The invariant: `best` stands for the numbers of the block below i. The measure is the numbers left.
-use Prim.Native.Nat.{◌*◌, ◌-◌, ◌≤◌}
-use native.Mathlib.Omega.{arith}
-use Rattle.seeking.proofs.Blocks.{LookedThrough, looked_first, looked_more, looked_all}
+use Prim.Native.Nat.{◌-◌, ◌≤◌}
+use Rattle.seeking.proofs.Blocks.{LookedThrough}
 use Rattle.seeking.proofs.heads.head_of.Given as goal
 
 abbrev pub invariant-loop-i : goal.invariant-loop-i

@@ -1,7 +1,6 @@
 -- The head of the block is written, and no other.
 use Prim.Native.Nat.{◌/◌}
 use native.Mathlib.Omega.{arith}
-use borrow.Author.Rules.{rules}
 use Rattle.seeking.proofs.Blocks.{head_written}
 use Rattle.seeking.proofs.heads.refresh.Goals as goal
 

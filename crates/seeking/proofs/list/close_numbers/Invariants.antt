@@ -1,9 +1,8 @@
 -- The invariant: the places up to i have taken over what stood one further, the others hold what they had. The measure is the places left.
 use Prim.Native.Nat.{◌-◌}
-use mathlib.Core.Path.{◌≡◌, refl}
-use native.Mathlib.Omega.{arith}
+use mathlib.Core.Path.{◌≡◌}
 use lib.ListN.{length}
-use Rattle.seeking.proofs.Removing.{Closing, closing_starts, closing_on, closing_ends}
+use Rattle.seeking.proofs.Removing.{Closing}
 use Rattle.seeking.proofs.list.close_numbers.Given as goal
 
 abbrev pub invariant-loop-i : goal.invariant-loop-i

@@ -1,9 +1,7 @@
 -- The invariant: the places up to i have taken over what stood one further, the others hold what they had. The measure is the places left.
-use Prim.Native.Nat.{◌-◌}
-use mathlib.Core.Path.{◌≡◌, refl}
+use mathlib.Core.Path.{refl}
 use native.Mathlib.Omega.{arith}
-use lib.ListN.{length}
-use Rattle.seeking.proofs.Removing.{Closing, closing_starts, closing_on, closing_ends}
+use Rattle.seeking.proofs.Removing.{closing_starts, closing_on, closing_ends}
 use Rattle.seeking.proofs.list.close_words.Goals as goal
 
 pub loop-i-init : goal.loop-i-init

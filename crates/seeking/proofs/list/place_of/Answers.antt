@@ -1,10 +1,9 @@
 -- The invariant: the number stands at one of the places from `low` up to `high`. The measure is how many those are.
-use Prim.Native.Nat.{◌-◌}
 use mathlib.Core.Path.{◌≡◌, ap, ◌∙◌}
 use native.Mathlib.Omega.{arith}
 use lib.ListN.{get_or}
 use Rattle.lists.proofs.Position.{mem_get_or}
-use Rattle.seeking.proofs.Halving.{Between, lower_half, upper_half}
+use Rattle.seeking.proofs.Halving.{lower_half, upper_half}
 use Rattle.seeking.proofs.list.place_of.Goals as goal
 
 pub loop-high-init : goal.loop-high-init

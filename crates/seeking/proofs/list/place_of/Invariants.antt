@@ -1,10 +1,6 @@
 -- The invariant: the number stands at one of the places from `low` up to `high`. The measure is how many those are.
 use Prim.Native.Nat.{◌-◌}
-use mathlib.Core.Path.{◌≡◌, ap, ◌∙◌}
-use native.Mathlib.Omega.{arith}
-use lib.ListN.{get_or}
-use Rattle.lists.proofs.Position.{mem_get_or}
-use Rattle.seeking.proofs.Halving.{Between, lower_half, upper_half}
+use Rattle.seeking.proofs.Halving.{Between}
 use Rattle.seeking.proofs.list.place_of.Given as goal
 
 abbrev pub invariant-loop-high : goal.invariant-loop-high

@@ -1,7 +1,6 @@
 -- The place of the number is closed in both lists.
 use Prim.Native.Nat.{◌-◌}
 use mathlib.Core.Path.{sym, ap, ◌∙◌}
-use borrow.Author.Rules.{rules}
 use lib.ListN.{take}
 use Rattle.seeking.proofs.list.remove.Goals as goal
 

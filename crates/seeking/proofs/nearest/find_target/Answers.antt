@@ -1,7 +1,6 @@
 -- The nearest of the list, if it has a number.
 use mathlib.Core.Path.{sym, ◌∙◌}
 use native.Mathlib.Omega.{arith}
-use borrow.Author.Rules.{rules}
 use lib.ListN.{get_or}
 use lib.Seq.{length-take-le}
 use Rattle.joins.specs.Candidate.{comes_first, target_at}

@@ -2,7 +2,6 @@
 use Prim.Native.Nat.{◌*◌, ◌<◌}
 use mathlib.Core.Path.{sym, ap, ◌∙◌}
 use native.Mathlib.Omega.{arith}
-use borrow.Author.Rules.{rules}
 use lib.ListN.{length, get_or}
 use Rattle.bitset.specs.Entries.{word_at}
 use Rattle.seeking.specs.Listed.{fewest_of_blocks}
@@ -15,8 +14,7 @@ overflow_cast-there c = omega (arith, c.type_inv.there (16 * c.fill_fewest-first
 pub target_at-one-requires : goal.target_at-one-requires
 target_at-one-requires c =
     let at_first : 16 * c.fill_fewest-first.result < length c.args.there.now =
-        omega (arith, c.fill_fewest-first.ensures.1, c.requires.1, c.requires.2) in
-    
+    omega (arith, c.fill_fewest-first.ensures.1, c.requires.1, c.requires.2) in
     let r = c.requires.0.readable in
     let i = 16 * c.fill_fewest-first.result in
     let h = r.inside i (at_first) in
@@ -25,7 +23,7 @@ target_at-one-requires c =
 pub or_blocks-later-requires : goal.or_blocks-later-requires
 or_blocks-later-requires c =
     let at_first : 16 * c.fill_fewest-first.result < length c.args.there.now =
-        omega (arith, c.fill_fewest-first.ensures.1, c.requires.1, c.requires.2) in
+    omega (arith, c.fill_fewest-first.ensures.1, c.requires.1, c.requires.2) in
     let f = c.fill_fewest-first in
     let a = c.args in (
       c.requires.0,

@@ -1,13 +1,6 @@
 -- The invariant: the nearest so far, once the blocks up to j were looked at. The measure is the blocks left.
-use Prim.Native.Nat.{◌+◌, ◌*◌, ◌-◌, ◌≤◌}
-use mathlib.Core.Path.{◌≡◌, ap, ◌∙◌, subst}
-use native.Mathlib.Omega.{arith}
-use lib.ListN.{length, get_or}
-use Rattle.lists.proofs.Map.{get_or_map_range}
-use Rattle.bitset.specs.Entries.{word_at}
-use Rattle.seeking.specs.Listed.{fewest, fewest_of_blocks}
+use Prim.Native.Nat.{◌*◌, ◌-◌, ◌≤◌}
 use Rattle.seeking.specs.Search.{Nearer}
-use Rattle.seeking.proofs.Targets.{nearer_stays, nearer_then}
 use Rattle.seeking.proofs.nearest.or_blocks.Given as goal
 
 abbrev pub invariant-loop-j : goal.invariant-loop-j

@@ -1,9 +1,6 @@
 -- The invariant: the nearest so far, once the places up to i were looked at. The measure is the places left.
 use Prim.Native.Nat.{◌-◌, ◌≤◌}
-use mathlib.Core.Path.{◌≡◌, subst}
-use native.Mathlib.Omega.{arith}
 use Rattle.seeking.specs.Search.{Nearer}
-use Rattle.seeking.proofs.Targets.{nearer_stays, nearer_then}
 use Rattle.seeking.proofs.nearest.or_places.Given as goal
 
 abbrev pub invariant-loop-i : goal.invariant-loop-i

@@ -1,9 +1,7 @@
 -- The invariant: the best so far is the first seeker of the first i heads. The measure is the heads left.
-use Prim.Native.Nat.{◌-◌, ◌≤◌}
 use mathlib.Core.List.{map}
-use mathlib.Core.Path.{◌≡◌, ap, ◌∙◌}
+use mathlib.Core.Path.{ap, ◌∙◌}
 use native.Mathlib.Omega.{arith}
-use lib.ListN.{length, take}
 use lib.Seq.{take_all}
 use Rattle.lists.specs.Keep.{keep}
 use Rattle.lists.specs.Least.{least}

@@ -1,16 +1,12 @@
 -- The invariant: the best so far is the first seeker of the first i heads. The measure is the heads left.
 use Prim.Native.Nat.{◌-◌, ◌≤◌}
 use mathlib.Core.List.{map}
-use mathlib.Core.Path.{◌≡◌, ap, ◌∙◌}
-use native.Mathlib.Omega.{arith}
+use mathlib.Core.Path.{◌≡◌}
 use lib.ListN.{length, take}
-use lib.Seq.{take_all}
 use Rattle.lists.specs.Keep.{keep}
 use Rattle.lists.specs.Least.{least}
 use Rattle.joins.specs.Candidate.{seeking, comes_first, seeker_at}
-use Rattle.joins.specs.declared.candidate.Candidate.{Candidate}
-use Rattle.seeking.specs.Search.{found_of, looked}
-use Rattle.seeking.proofs.Searching.{search_kept_none, search_kept_more}
+use Rattle.seeking.specs.Search.{found_of}
 use Rattle.seeking.proofs.search.find_seeker.Given as goal
 
 abbrev pub invariant-loop-i : goal.invariant-loop-i

@@ -1,10 +1,7 @@
 -- The invariant: the fewest so far is that of the first i words of the block. The measure is the words left.
-use Prim.Native.Nat.{suc, ◌+◌, ◌-◌, ◌≤◌}
-use mathlib.Core.Path.{◌≡◌, refl, ap, ◌∙◌}
-use native.Mathlib.Omega.{arith}
-use lib.ListN.{get_or}
-use Rattle.joins.specs.Candidate.{ones_apart}
-use Rattle.seeking.specs.Listed.{fewer, fewest}
+use Prim.Native.Nat.{◌-◌, ◌≤◌}
+use mathlib.Core.Path.{◌≡◌}
+use Rattle.seeking.specs.Listed.{fewest}
 use Rattle.seeking.proofs.words.fewest_of_block.Given as goal
 
 abbrev pub invariant-loop-i : goal.invariant-loop-i

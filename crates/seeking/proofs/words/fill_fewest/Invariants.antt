@@ -1,14 +1,10 @@
 -- The invariant: the fewest of the first j blocks are written, and the answer so far is a block. The measure is the blocks left.
 use Prim.Native.Nat.{ℕ, ◌*◌, ◌-◌, ◌≤◌}
 use mathlib.Core.List.{List, map}
-use mathlib.Core.Path.{refl, sym, ◌∙◌}
-use native.Mathlib.Omega.{arith}
 use lib.ListN.{length}
 use Rattle.lists.specs.Range.{range}
-use Rattle.lists.proofs.Front.{Copied, none_placed, one_written, all_copied}
-use Rattle.lists.proofs.Map.{get_or_map_range}
-use Rattle.seeking.specs.Listed.{fewest, fewest_of_blocks}
-use Rattle.seeking.proofs.Beside.{fewest_small}
+use Rattle.lists.proofs.Front.{Copied}
+use Rattle.seeking.specs.Listed.{fewest}
 use Rattle.seeking.proofs.words.fill_fewest.Given as goal
 
 -- the fewest of block j

@@ -1,11 +1,9 @@
 -- `seeking::words::fill_words` meets its contract: one word more is written a turn, the rest are as they were.
-use Prim.Native.Nat.{◌*◌, ◌-◌}
-use mathlib.Core.List.{map}
+use Prim.Native.Nat.{◌*◌}
 use mathlib.Core.Path.{refl}
 use native.Mathlib.Omega.{arith}
 use lib.ListN.{length, get_or}
-use Rattle.lists.specs.Range.{range}
-use Rattle.lists.proofs.Front.{Copied, none_placed, one_placed, all_copied}
+use Rattle.lists.proofs.Front.{none_placed, one_placed, all_copied}
 use Rattle.seeking.proofs.words.fill_words.Goals as goal
 
 pub loop-i-init : goal.loop-i-init

@@ -1,5 +1,4 @@
 -- `utf8::start::start_back` meets its contract. The invariant: from byte i back the same start is found.
-use Prim.Native.Nat.{◌≤◌}
 use mathlib.Core.Path.{◌≡◌, refl, sym, ◌∙◌}
 use native.Mathlib.Omega.{arith}
 use Rattle.utf8.specs.Start.{start_back}

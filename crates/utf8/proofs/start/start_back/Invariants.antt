@@ -1,9 +1,7 @@
 -- `utf8::start::start_back` meets its contract. The invariant: from byte i back the same start is found.
 use Prim.Native.Nat.{◌≤◌}
-use mathlib.Core.Path.{◌≡◌, refl, sym, ◌∙◌}
-use native.Mathlib.Omega.{arith}
+use mathlib.Core.Path.{◌≡◌}
 use Rattle.utf8.specs.Start.{start_back}
-use Rattle.utf8.proofs.Starts.{starts_below, starts_above, starts_not, back_here, back_before}
 use Rattle.utf8.proofs.start.start_back.Given as goal
 
 abbrev pub invariant-loop-i : goal.invariant-loop-i

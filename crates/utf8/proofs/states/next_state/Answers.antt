@@ -3,7 +3,6 @@ use Prim.Native.Nat.{◌≤◌}
 use mathlib.Core.List.{◌∷◌}
 use mathlib.Core.Path.{sym, ◌∙◌}
 use native.Mathlib.Omega.{arith}
-use borrow.Author.Rules.{rules}
 use Rattle.utf8.specs.Table.{values, among}
 use Rattle.utf8.specs.Utf8.{goes_on}
 use Rattle.utf8.specs.States.{due_in, goes_from}

@@ -1,9 +1,9 @@
 -- `utf8::text::is_utf8` meets its contract. The invariant: from the state on, the bytes from i on are text as the whole bytes are.
-use Prim.Native.Nat.{◌+◌, ◌-◌, ◌≤◌}
+use Prim.Native.Nat.{◌+◌}
 use mathlib.Core.List.{[]}
 use mathlib.Core.Path.{◌≡◌, refl, sym, ◌∙◌, ap}
 use native.Mathlib.Omega.{arith}
-use lib.ListN.{length, drop, drop_of_length-le}
+use lib.ListN.{drop, drop_of_length-le}
 use Rattle.utf8.specs.Utf8.{utf8}
 use Rattle.utf8.specs.States.{due_in, goes_from}
 use Rattle.utf8.proofs.StateLaws.{goes_nowhere, goes_ended, goes_next}

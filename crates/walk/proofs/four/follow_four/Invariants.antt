@@ -1,16 +1,10 @@
 -- `walk::four::follow_four` meets its contract. The loop's invariant: what is left to do from the four records on is what was to be done from those
 -- handed in. The measure is how many modules are still named.
 use Prim.Native.Nat.{◌-◌}
-use mathlib.Core.Bool.{true}
-use mathlib.Core.List.Memᴰ
 use mathlib.Core.List.{[], ◌∷◌}
-use mathlib.Core.Path.{◌≡◌, refl, sym, ◌∙◌}
-use native.Mathlib.Omega.{arith}
-use mir.Facts.{Fits-32_64}
 use lib.ListN.{length}
-use Rattle.walk.specs.Chains.{named_from_all, go_on}
-use Rattle.walk.proofs.SideBySide.{SideBySide, side_begins, side_few, side_length, side_turns, side_rest, side_ends}
-use Rattle.walk.proofs.SideBySide.{turn_ready, some_ready, more_ready, rest_ready}
+use Rattle.walk.specs.Chains.{named_from_all}
+use Rattle.walk.proofs.SideBySide.{SideBySide}
 use Rattle.walk.proofs.four.follow_four.Given as goal
 
 abbrev pub invariant-loop-marks : goal.invariant-loop-marks

@@ -1,5 +1,5 @@
 -- `walk::four::take_four` meets its contract: the four modules are on the list, so they have first records, whose chains can be gone along.
-use Prim.Native.Nat.{ℕ, ◌+◌, ◌-◌, ◌≤◌, ◌<◌}
+use Prim.Native.Nat.{ℕ, ◌+◌, ◌≤◌, ◌<◌}
 use mathlib.Core.List.Memᴰ
 use mathlib.Core.List.{List}
 use mathlib.Core.Path.{◌≡◌, sym, ap, ◌∙◌, subst}
@@ -61,5 +61,5 @@ returns c =
     let a = c.args in
     let e = c.follow_four.ensures in
     let q = four_named a.first.now a.dependency.now a.next.now _ a.queue.now a.head (room c.requires)
-            c.first_at-a.ensures c.first_at-b.ensures c.first_at-c.ensures c.first_at-d.ensures in
+    c.first_at-a.ensures c.first_at-b.ensures c.first_at-c.ensures c.first_at-d.ensures in
     record { visited = named_as q e.visited; gone_value = e.gone_value ∙ ap (λ (ks : List ℕ). a.gone + length ks) q }

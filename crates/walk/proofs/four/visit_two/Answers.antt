@@ -27,4 +27,3 @@ visit-requires c =
 
 pub returns : goal.returns
 returns c = rw c.visit-found.ensures c.visit.ensures
-

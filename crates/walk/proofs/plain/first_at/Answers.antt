@@ -1,5 +1,4 @@
 -- `walk::plain::first_at` meets its contract.
-use borrow.Author.Rules.{rules}
 use mir.Facts.{Fits-32_64}
 use Rattle.walk.proofs.plain.first_at.Goals as goal
 

@@ -1,12 +1,9 @@
 -- `walk::plain::follow_plain` meets its contract. The loop's invariant: what is left to do from record r on is what was to be done from the chain's
 -- first record on. The measure is the number of records left, and with those gone along they are not many.
 use Prim.Native.Nat.{◌-◌}
-use mathlib.Core.Path.{sym, ◌∙◌}
-use native.Mathlib.Omega.{arith}
-use mir.Facts.{Fits-32_64}
 use lib.ListN.{length}
 use Rattle.walk.specs.Chains.{named_from}
-use Rattle.walk.proofs.Passing.{Passing, pass_begins, pass_few, pass_ends, pass_counted, pass_less, pass_turns, named_in}
+use Rattle.walk.proofs.Passing.{Passing}
 use Rattle.walk.proofs.plain.follow_plain.Given as goal
 
 abbrev pub invariant-loop-r : goal.invariant-loop-r

@@ -5,7 +5,6 @@ use mathlib.Core.Path.{sym, ◌∙◌, subst}
 use native.Mathlib.Omega.{arith}
 use lib.ListN.{length, get_or}
 use Rattle.records.proofs.Table.{Good, good}
-use Rattle.walk.specs.Walk.{Walking}
 use Rattle.walk.specs.Chains.{Chain}
 use Rattle.walk.proofs.Passing.{link_tables, chain_begins}
 use Rattle.walk.proofs.Walking.{walk_begins, walk_takes, walk_turns_from, taken_in, list_within, list_room}
@@ -28,7 +27,7 @@ returns-then-next-gone c = c.loop-head.invariant
 pub overflow_add-head : goal.overflow_add-head
 overflow_add-head c =
     let listed : (c.loop-head.found ≤ length c.loop-head.queue) × (c.loop-head.found ≤ length c.args.flags.now) =
-        let s = c.loop-head.invariant.state in
+    let s = c.loop-head.invariant.state in
     (list_room c.args.flags.now _ _ s, list_within c.args.flags.now _ _ s) in
     omega (arith, (listed).0, c.well_formed)
 
@@ -44,14 +43,14 @@ take_four-passed-requires c =
 pub overflow_add-head-then-head-found : goal.overflow_add-head-then-head-found
 overflow_add-head-then-head-found c =
     let listed : (c.loop-head.found ≤ length c.loop-head.queue) × (c.loop-head.found ≤ length c.args.flags.now) =
-        let s = c.loop-head.invariant.state in
+    let s = c.loop-head.invariant.state in
     (list_room c.args.flags.now _ _ s, list_within c.args.flags.now _ _ s) in
     omega (arith, c.if-head-found.true, (listed).0, c.well_formed)
 
 pub loop-head-smaller-then-head-found : goal.loop-head-smaller-then-head-found
 loop-head-smaller-then-head-found c =
     let listed : (c.loop-head.found ≤ length c.loop-head.queue) × (c.loop-head.found ≤ length c.args.flags.now) =
-        let s = c.loop-head.invariant.state in
+    let s = c.loop-head.invariant.state in
     (list_room c.args.flags.now _ _ s, list_within c.args.flags.now _ _ s) in
     omega (arith, c.if-head-found.true, (listed).1)
 
@@ -63,15 +62,13 @@ loop-head-preserved-then-head-found c =
 pub first_at-from-requires : goal.first_at-from-requires
 first_at-from-requires c =
     let listed : (c.loop-head.found ≤ length c.loop-head.queue) × (c.loop-head.found ≤ length c.args.flags.now) =
-        let s = c.loop-head.invariant.state in
+    let s = c.loop-head.invariant.state in
     (list_room c.args.flags.now _ _ s, list_within c.args.flags.now _ _ s) in
     let tables_good : Good c.args.first.now c.args.dependency.now c.args.next.now (length c.args.flags.now) (length c.args.next.now - 1) =
-        good _ _ _ _ _ c.requires.tables.good in
+    good _ _ _ _ _ c.requires.tables.good in
     let taken : get_or c.loop-head.queue c.loop-head.head 0 < length c.args.flags.now =
-        
     let a = c.args in
     taken_in a.flags.now a.first.now a.dependency.now a.next.now _ _ (tables_good) _ _ _ c.loop-head.invariant c.loop-head-test.true in
-    
     record {
       place_in = omega (arith, (listed).0, c.loop-head-test.true);
       module_in = omega (arith, taken, c.requires.tables.records.firsts);
@@ -80,12 +77,10 @@ first_at-from-requires c =
 pub follow_plain-passed-requires : goal.follow_plain-passed-requires
 follow_plain-passed-requires c =
     let tables_good : Good c.args.first.now c.args.dependency.now c.args.next.now (length c.args.flags.now) (length c.args.next.now - 1) =
-        good _ _ _ _ _ c.requires.tables.good in
+    good _ _ _ _ _ c.requires.tables.good in
     let taken : get_or c.loop-head.queue c.loop-head.head 0 < length c.args.flags.now =
-        
     let a = c.args in
     taken_in a.flags.now a.first.now a.dependency.now a.next.now _ _ (tables_good) _ _ _ c.loop-head.invariant c.loop-head-test.true in
-    
     let begins = chain_begins c.requires.tables (tables_good) _ (taken) in
     record {
       tables = link_tables c.requires.tables (tables_good);
@@ -97,22 +92,21 @@ follow_plain-passed-requires c =
 pub overflow_add-head-in-loop-head : goal.overflow_add-head-in-loop-head
 overflow_add-head-in-loop-head c =
     let listed : (c.loop-head.found ≤ length c.loop-head.queue) × (c.loop-head.found ≤ length c.args.flags.now) =
-        let s = c.loop-head.invariant.state in
+    let s = c.loop-head.invariant.state in
     (list_room c.args.flags.now _ _ s, list_within c.args.flags.now _ _ s) in
     omega (arith, c.loop-head-test.true, (listed).0, c.well_formed)
 
 pub loop-head-smaller : goal.loop-head-smaller
 loop-head-smaller c =
     let listed : (c.loop-head.found ≤ length c.loop-head.queue) × (c.loop-head.found ≤ length c.args.flags.now) =
-        let s = c.loop-head.invariant.state in
+    let s = c.loop-head.invariant.state in
     (list_room c.args.flags.now _ _ s, list_within c.args.flags.now _ _ s) in
     omega (arith, c.loop-head-test.true, (listed).1)
 
 pub loop-head-preserved : goal.loop-head-preserved
 loop-head-preserved c =
     let tables_good : Good c.args.first.now c.args.dependency.now c.args.next.now (length c.args.flags.now) (length c.args.next.now - 1) =
-        good _ _ _ _ _ c.requires.tables.good in
-    
+    good _ _ _ _ _ c.requires.tables.good in
     let a = c.args in
     let h = c.loop-head-test.true in
     let e = c.first_at-from.ensures in

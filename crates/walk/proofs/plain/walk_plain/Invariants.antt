@@ -1,14 +1,8 @@
 -- `walk::plain::walk_plain` meets its contract. The loop's invariant is that of a walk with `head` modules taken off its list; the measure is how
 -- many of the n modules can still be taken off.
-use Prim.Native.Nat.{◌-◌, ◌≤◌, ◌<◌}
-use mathlib.Core.Path.{sym, ◌∙◌, subst}
-use native.Mathlib.Omega.{arith}
-use lib.ListN.{length, get_or}
-use Rattle.records.proofs.Table.{Good, good}
+use Prim.Native.Nat.{◌-◌}
+use lib.ListN.{length}
 use Rattle.walk.specs.Walk.{Walking}
-use Rattle.walk.specs.Chains.{Chain}
-use Rattle.walk.proofs.Passing.{link_tables, chain_begins}
-use Rattle.walk.proofs.Walking.{walk_begins, walk_takes, walk_turns_from, taken_in, list_within, list_room}
 use Rattle.walk.proofs.plain.walk_plain.Given as goal
 
 abbrev pub invariant-loop-head : goal.invariant-loop-head

@@ -3,13 +3,12 @@
 use Prim.Native.Nat.{◌-◌}
 use mathlib.Core.Path.{sym, ◌∙◌}
 use native.Mathlib.Omega.{arith}
-use borrow.Author.Rules.{rules}
 use mir.Facts.{Fits-32_64}
 use lib.ListN.{length}
-use Rattle.records.specs.Chain.{chain_from, chain_of, dependencies}
+use Rattle.records.specs.Chain.{chain_of, dependencies}
 use Rattle.records.proofs.ChainMarks.{record_marked}
 use Rattle.records.proofs.Table.{Good, good}
-use Rattle.walk.proofs.Chains.{Following, follow_begins, follow_ends, followed_ends, follow_less, follow_turns, named_in}
+use Rattle.walk.proofs.Chains.{follow_begins, follow_ends, followed_ends, follow_less, follow_turns, named_in}
 use Rattle.walk.proofs.walk.follow.Goals as goal
 
 pub offset_bounds-first-at : goal.offset_bounds-first-at
@@ -26,8 +25,7 @@ overflow_cast-r c = Fits-32_64 (c.type_inv.first _)
 pub loop-followed-init : goal.loop-followed-init
 loop-followed-init c =
     let tables_good : Good c.args.first.now c.args.dependency.now c.args.next.now (length c.args.flags.now) (length c.args.next.now - 1) =
-        good _ _ _ _ _ c.requires.tables.good in
-    
+    good _ _ _ _ _ c.requires.tables.good in
     let a = c.args in
     let p = c.requires in
     follow_begins a.flags.now a.first.now a.dependency.now a.next.now _ _ (tables_good) _ _ a.of.0 p.state p.before
@@ -52,8 +50,7 @@ bounds-dependency-r c =
 pub visit-found-requires : goal.visit-found-requires
 visit-found-requires c =
     let tables_good : Good c.args.first.now c.args.dependency.now c.args.next.now (length c.args.flags.now) (length c.args.next.now - 1) =
-        good _ _ _ _ _ c.requires.tables.good in
-    
+    good _ _ _ _ _ c.requires.tables.good in
     let a = c.args in
     let h = c.loop-followed-test.true in
     record {
@@ -75,8 +72,7 @@ overflow_cast-r-in-loop-followed c = Fits-32_64 (c.type_inv.next _)
 pub loop-followed-smaller : goal.loop-followed-smaller
 loop-followed-smaller c =
     let tables_good : Good c.args.first.now c.args.dependency.now c.args.next.now (length c.args.flags.now) (length c.args.next.now - 1) =
-        good _ _ _ _ _ c.requires.tables.good in
-    
+    good _ _ _ _ _ c.requires.tables.good in
     let a = c.args in
     let h = c.loop-followed-test.true in
     follow_less a.flags.now a.first.now a.dependency.now a.next.now _ _ (tables_good) _ _ _ _ _ _ c.loop-followed.invariant h
@@ -84,8 +80,7 @@ loop-followed-smaller c =
 pub loop-followed-preserved : goal.loop-followed-preserved
 loop-followed-preserved c =
     let tables_good : Good c.args.first.now c.args.dependency.now c.args.next.now (length c.args.flags.now) (length c.args.next.now - 1) =
-        good _ _ _ _ _ c.requires.tables.good in
-    
+    good _ _ _ _ _ c.requires.tables.good in
     let a = c.args in
     let h = c.loop-followed-test.true in
     let v = c.visit-found.ensures in
@@ -104,8 +99,7 @@ pub returns : goal.returns
 unfolding dependencies chain_of
 returns c =
     let tables_good : Good c.args.first.now c.args.dependency.now c.args.next.now (length c.args.flags.now) (length c.args.next.now - 1) =
-        good _ _ _ _ _ c.requires.tables.good in
-    
+    good _ _ _ _ _ c.requires.tables.good in
     let a = c.args in
     let p = c.loop-followed.invariant in
-    let h = record_marked c.loop-followed.r p.marking.marked c.loop-followed-test.false in record { of_value = follow_ends a.flags.now a.first.now a.dependency.now a.next.now _ _ (tables_good) _ _ _ _ _ _ p h; followed_after = followed_ends a.flags.now a.first.now a.dependency.now a.next.now _ _ (tables_good) _ _ _ _ _ _ p h; }
+    let h = record_marked c.loop-followed.r p.marking.marked c.loop-followed-test.false in record { of_value = follow_ends a.flags.now a.first.now a.dependency.now a.next.now _ _ (tables_good) _ _ _ _ _ _ p h; followed_after = followed_ends a.flags.now a.first.now a.dependency.now a.next.now _ _ (tables_good) _ _ _ _ _ _ p h }

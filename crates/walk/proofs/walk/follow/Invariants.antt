@@ -1,15 +1,9 @@
 -- `walk::walk::follow` meets its contract. The loop's invariant: what is left to do from record r on is what was to be done from the chain's
 -- first record on. The measure is the number of records left.
 use Prim.Native.Nat.{◌-◌}
-use mathlib.Core.Path.{sym, ◌∙◌}
-use native.Mathlib.Omega.{arith}
-use borrow.Author.Rules.{rules}
-use mir.Facts.{Fits-32_64}
 use lib.ListN.{length}
-use Rattle.records.specs.Chain.{chain_from, chain_of, dependencies}
-use Rattle.records.proofs.ChainMarks.{record_marked}
-use Rattle.records.proofs.Table.{Good, good}
-use Rattle.walk.proofs.Chains.{Following, follow_begins, follow_ends, followed_ends, follow_less, follow_turns, named_in}
+use Rattle.records.specs.Chain.{chain_from}
+use Rattle.walk.proofs.Chains.{Following}
 use Rattle.walk.proofs.walk.follow.Given as goal
 
 abbrev pub invariant-loop-followed : goal.invariant-loop-followed

@@ -2,11 +2,9 @@
 use Prim.Native.Nat.{◌<◌}
 use mathlib.Core.Path.{sym, ◌∙◌}
 use native.Mathlib.Omega.{arith}
-use borrow.Author.Tests.{not-true, not-false}
 use lib.ListN.{length}
 use Rattle.walk.proofs.State.{state_room}
 use Rattle.walk.proofs.Visit.{visit_ineligible, visit_marked, visit_new}
-use borrow.Author.Rules.{rules}
 use Rattle.walk.proofs.walk.visit.Goals as goal
 
 pub returns-then-marks-at-ne0 : goal.returns-then-marks-at-ne0
@@ -22,19 +20,19 @@ returns-then-not-is_eligible_at c =
 pub offset_bounds-queue-tail : goal.offset_bounds-queue-tail
 offset_bounds-queue-tail c =
     let has_room : c.args.tail < length c.args.queue.now =
-        state_room c.args.flags.now _ _ c.requires.state c.args.named.0 c.requires.module_in c.if-marks-at-ne0.false in
+    state_room c.args.flags.now _ _ c.requires.state c.args.named.0 c.requires.module_in c.if-marks-at-ne0.false in
     omega (arith, has_room)
 
 pub bounds-queue-tail : goal.bounds-queue-tail
 bounds-queue-tail c =
     let has_room : c.args.tail < length c.args.queue.now =
-        state_room c.args.flags.now _ _ c.requires.state c.args.named.0 c.requires.module_in c.if-marks-at-ne0.false in
+    state_room c.args.flags.now _ _ c.requires.state c.args.named.0 c.requires.module_in c.if-marks-at-ne0.false in
     has_room
 
 pub overflow_add-result : goal.overflow_add-result
 overflow_add-result c =
     let has_room : c.args.tail < length c.args.queue.now =
-        state_room c.args.flags.now _ _ c.requires.state c.args.named.0 c.requires.module_in c.if-marks-at-ne0.false in
+    state_room c.args.flags.now _ _ c.requires.state c.args.named.0 c.requires.module_in c.if-marks-at-ne0.false in
     omega (arith, has_room)
 
 pub returns : goal.returns

@@ -5,9 +5,8 @@ use mathlib.Core.Path.{sym, ◌∙◌}
 use native.Mathlib.Omega.{arith}
 use lib.ListN.{length}
 use Rattle.records.proofs.Table.{Good, good}
-use Rattle.walk.specs.Walk.{Walking}
 use Rattle.walk.proofs.Walking.{walk_resumes, walk_turns, walk_ends, taken_in, list_within}
-use Rattle.walk.proofs.Trail.{Trail, trail_begins, trail_turns, trail_ends, part_in, unfollowed_bytes}
+use Rattle.walk.proofs.Trail.{trail_begins, trail_turns, trail_ends, part_in, unfollowed_bytes}
 use Rattle.walk.proofs.walk.walk_marked.Goals as goal
 
 pub bounds-followed-0 : goal.bounds-followed-0
@@ -24,7 +23,7 @@ loop-head-init c =
 pub offset_bounds-queue-head : goal.offset_bounds-queue-head
 offset_bounds-queue-head c =
     let listed : (c.loop-head.found ≤ length c.loop-head.queue) × (c.loop-head.found ≤ length c.args.flags.now) =
-        let s = c.loop-head.invariant.0.state in
+    let s = c.loop-head.invariant.0.state in
     let few = list_within c.args.flags.now _ _ s in
     (omega (arith, s.room, few), few) in
     omega (arith, (listed).0, c.well_formed)
@@ -32,7 +31,7 @@ offset_bounds-queue-head c =
 pub bounds-queue-head : goal.bounds-queue-head
 bounds-queue-head c =
     let listed : (c.loop-head.found ≤ length c.loop-head.queue) × (c.loop-head.found ≤ length c.args.flags.now) =
-        let s = c.loop-head.invariant.0.state in
+    let s = c.loop-head.invariant.0.state in
     let few = list_within c.args.flags.now _ _ s in
     (omega (arith, s.room, few), few) in
     omega (arith, (listed).0)
@@ -40,8 +39,7 @@ bounds-queue-head c =
 pub follow-found-requires : goal.follow-found-requires
 follow-found-requires c =
     let tables_good : Good c.args.first.now c.args.dependency.now c.args.next.now (length c.args.flags.now) (length c.args.next.now - 1) =
-        good _ _ _ _ _ c.requires.tables.good in
-    
+    good _ _ _ _ _ c.requires.tables.good in
     let a = c.args in
     let p = c.loop-head.invariant in
     let h = c.loop-head-test.true in
@@ -55,26 +53,23 @@ follow-found-requires c =
 pub overflow_add-head : goal.overflow_add-head
 overflow_add-head c =
     let listed : (c.loop-head.found ≤ length c.loop-head.queue) × (c.loop-head.found ≤ length c.args.flags.now) =
-        let s = c.loop-head.invariant.0.state in
+    let s = c.loop-head.invariant.0.state in
     let few = list_within c.args.flags.now _ _ s in
     (omega (arith, s.room, few), few) in
-    
     omega (arith, (listed).0, c.loop-head-test.true, c.well_formed)
 
 pub loop-head-smaller : goal.loop-head-smaller
 loop-head-smaller c =
     let listed : (c.loop-head.found ≤ length c.loop-head.queue) × (c.loop-head.found ≤ length c.args.flags.now) =
-        let s = c.loop-head.invariant.0.state in
+    let s = c.loop-head.invariant.0.state in
     let few = list_within c.args.flags.now _ _ s in
     (omega (arith, s.room, few), few) in
-    
     omega (arith, (listed).1, c.loop-head-test.true)
 
 pub loop-head-preserved : goal.loop-head-preserved
 loop-head-preserved c =
     let tables_good : Good c.args.first.now c.args.dependency.now c.args.next.now (length c.args.flags.now) (length c.args.next.now - 1) =
-        good _ _ _ _ _ c.requires.tables.good in
-    
+    good _ _ _ _ _ c.requires.tables.good in
     let a = c.args in
     let p = c.loop-head.invariant in
     let h = c.loop-head-test.true in
@@ -86,10 +81,10 @@ loop-head-preserved c =
 pub offset_bounds-queue-start : goal.offset_bounds-queue-start
 offset_bounds-queue-start c =
     let tables_good : Good c.args.first.now c.args.dependency.now c.args.next.now (length c.args.flags.now) (length c.args.next.now - 1) =
-        good _ _ _ _ _ c.requires.tables.good in
+    good _ _ _ _ _ c.requires.tables.good in
     let part : c.loop-head.found ≤ c.loop-head.head
     → (c.args.start ≤ c.loop-head.found) × (c.loop-head.found ≤ length c.loop-head.queue) =
-        λ h. 
+    λ h.
     let a = c.args in
     let p = c.loop-head.invariant in
     part_in a.flags.now a.first.now a.dependency.now a.next.now _ _ c.requires.tables.records (tables_good) _ _ _ p.0 h _ _ p.1 in
@@ -98,10 +93,10 @@ offset_bounds-queue-start c =
 pub slice_bounds-forget_all-count : goal.slice_bounds-forget_all-count
 slice_bounds-forget_all-count c =
     let tables_good : Good c.args.first.now c.args.dependency.now c.args.next.now (length c.args.flags.now) (length c.args.next.now - 1) =
-        good _ _ _ _ _ c.requires.tables.good in
+    good _ _ _ _ _ c.requires.tables.good in
     let part : c.loop-head.found ≤ c.loop-head.head
     → (c.args.start ≤ c.loop-head.found) × (c.loop-head.found ≤ length c.loop-head.queue) =
-        λ h. 
+    λ h.
     let a = c.args in
     let p = c.loop-head.invariant in
     part_in a.flags.now a.first.now a.dependency.now a.next.now _ _ c.requires.tables.records (tables_good) _ _ _ p.0 h _ _ p.1 in
@@ -110,10 +105,10 @@ slice_bounds-forget_all-count c =
 pub slice_bounds-forget_all-start : goal.slice_bounds-forget_all-start
 slice_bounds-forget_all-start c =
     let tables_good : Good c.args.first.now c.args.dependency.now c.args.next.now (length c.args.flags.now) (length c.args.next.now - 1) =
-        good _ _ _ _ _ c.requires.tables.good in
+    good _ _ _ _ _ c.requires.tables.good in
     let part : c.loop-head.found ≤ c.loop-head.head
     → (c.args.start ≤ c.loop-head.found) × (c.loop-head.found ≤ length c.loop-head.queue) =
-        λ h. 
+    λ h.
     let a = c.args in
     let p = c.loop-head.invariant in
     part_in a.flags.now a.first.now a.dependency.now a.next.now _ _ c.requires.tables.records (tables_good) _ _ _ p.0 h _ _ p.1 in
@@ -122,10 +117,10 @@ slice_bounds-forget_all-start c =
 pub slice_bounds-forget_all-end : goal.slice_bounds-forget_all-end
 slice_bounds-forget_all-end c =
     let tables_good : Good c.args.first.now c.args.dependency.now c.args.next.now (length c.args.flags.now) (length c.args.next.now - 1) =
-        good _ _ _ _ _ c.requires.tables.good in
+    good _ _ _ _ _ c.requires.tables.good in
     let part : c.loop-head.found ≤ c.loop-head.head
     → (c.args.start ≤ c.loop-head.found) × (c.loop-head.found ≤ length c.loop-head.queue) =
-        λ h. 
+    λ h.
     let a = c.args in
     let p = c.loop-head.invariant in
     part_in a.flags.now a.first.now a.dependency.now a.next.now _ _ c.requires.tables.records (tables_good) _ _ _ p.0 h _ _ p.1 in
@@ -134,8 +129,7 @@ slice_bounds-forget_all-end c =
 pub forget_all-requires : goal.forget_all-requires
 forget_all-requires c =
     let tables_good : Good c.args.first.now c.args.dependency.now c.args.next.now (length c.args.flags.now) (length c.args.next.now - 1) =
-        good _ _ _ _ _ c.requires.tables.good in
-    
+    good _ _ _ _ _ c.requires.tables.good in
     let a = c.args in
     let p = c.loop-head.invariant in
     let h = c.loop-head-test.false in
@@ -154,4 +148,4 @@ shape_of-followed c =
 pub returns : goal.returns
 returns c =
     let a = c.args in
-    let p = c.loop-head.invariant.0 in record { walked = walk_ends a.flags.now a.first.now a.dependency.now a.next.now _ _ _ _ _ p c.loop-head-test.false c.requires.state.mark_bytes; followed_after = c.forget_all.ensures; }
+    let p = c.loop-head.invariant.0 in record { walked = walk_ends a.flags.now a.first.now a.dependency.now a.next.now _ _ _ _ _ p c.loop-head-test.false c.requires.state.mark_bytes; followed_after = c.forget_all.ensures }

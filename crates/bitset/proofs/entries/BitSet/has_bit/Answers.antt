@@ -1,5 +1,4 @@
 -- The bit of the word of the entry, by what `test_bit` ensures.
-use borrow.Author.Rules.{rules}
 use Rattle.bitset.specs.Entries.{has_bit}
 use Rattle.bitset.proofs.entries.BitSet.has_bit.Goals as goal
 

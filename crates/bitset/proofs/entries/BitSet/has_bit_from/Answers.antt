@@ -1,7 +1,6 @@
 -- Word by word: the first word with an entry that far answers, and the last answers for itself.
 use mathlib.Core.Path.{sym, ◌∙◌}
 use Rattle.bitset.proofs.Beyond.{beyond_words}
-use borrow.Author.Rules.{rules}
 use Rattle.bitset.proofs.entries.BitSet.has_bit_from.Goals as goal
 
 pub returns-then-any_from : goal.returns-then-any_from

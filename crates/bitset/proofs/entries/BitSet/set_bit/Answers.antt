@@ -9,7 +9,6 @@ use lib.ListN.{set}
 use lib.Pow.{shl_exact}
 use Rattle.bitset.specs.Entries.{word_at, with_bit}
 use Rattle.bitset.specs.declared.entries.BitSet.{BitSet}
-use borrow.Author.Rules.{rules}
 use Rattle.bitset.proofs.entries.BitSet.set_bit.Goals as goal
 
 pub returns : goal.returns

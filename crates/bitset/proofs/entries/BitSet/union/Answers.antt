@@ -1,7 +1,6 @@
 -- Word by word, as the definition says.
 use mathlib.Core.Path.{refl}
 use Rattle.bitset.specs.Entries.{union_of}
-use borrow.Author.Rules.{rules}
 use Rattle.bitset.proofs.entries.BitSet.union.Goals as goal
 
 pub returns : goal.returns

@@ -1,7 +1,6 @@
 -- `cut::candidate::Candidate::beats_by_size` meets its contract: each way out is one case of the comparison by sizes.
 use mathlib.Core.Path.{sym, ap₂, ◌∙◌}
 use native.Mathlib.Omega.{arith}
-use borrow.Author.Rules.{rules}
 use lib.Ieee.{lt}
 use Rattle.cut.proofs.Comparing.{fewer, more, as_many}
 use Rattle.cut.proofs.candidate.Candidate.beats_by_size.Goals as goal

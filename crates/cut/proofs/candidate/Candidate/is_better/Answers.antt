@@ -1,7 +1,6 @@
 -- `cut::candidate::Candidate::is_better` meets its contract: each way out is one case of the comparison.
 use mathlib.Core.Path.{sym, ◌∙◌}
 use native.Mathlib.Omega.{arith}
-use borrow.Author.Rules.{rules}
 use Rattle.cut.proofs.Comparing.{lower, higher, close}
 use Rattle.cut.proofs.candidate.Candidate.is_better.Goals as goal
 

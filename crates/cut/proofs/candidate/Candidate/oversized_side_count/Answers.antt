@@ -2,7 +2,6 @@
 use Prim.Native.Nat.{◌+◌}
 use mathlib.Core.Path.{ap₂}
 use native.Mathlib.Omega.{arith}
-use borrow.Author.Rules.{rules}
 use lib.Ieee.{lt}
 use Rattle.lists.proofs.Count.{one_at_most}
 use Rattle.cut.specs.Candidate.{oversized}

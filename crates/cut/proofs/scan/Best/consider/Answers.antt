@@ -1,9 +1,7 @@
 -- `cut::scan::Best::consider` meets its contract: a cut that is passed over leaves the best as it is, and any other is compared with it.
 use mathlib.Core.Path.{sym, ◌∙◌}
-use borrow.Author.Tests.{not-true, not-false}
 use Rattle.cut.specs.Candidate.{allowed}
 use Rattle.cut.proofs.Looking.{too_alike, not_allowed_lem, is_allowed}
-use borrow.Author.Rules.{rules}
 use Rattle.cut.proofs.scan.Best.consider.Goals as goal
 
 pub returns-then-rules_out : goal.returns-then-rules_out

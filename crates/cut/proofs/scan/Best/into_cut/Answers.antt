@@ -5,7 +5,6 @@ use native.Mathlib.Omega.{arith}
 use borrow.Author.Tests.{lt-ltb, le-ltb}
 use Rattle.cut.specs.Cut.{fewer_than_two, none_allowed}
 use Rattle.cut.specs.Scan.{chosen_from}
-use borrow.Author.Rules.{rules}
 use Rattle.cut.proofs.scan.Best.into_cut.Goals as goal
 
 pub returns-then-count-lt2 : goal.returns-then-count-lt2

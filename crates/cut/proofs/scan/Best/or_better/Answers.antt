@@ -2,7 +2,6 @@
 -- comparison says which of the two cuts is kept.
 use mathlib.Core.Bool.{Bool, true, false, cond}
 use mathlib.Core.Path.{◌≡◌, sym, ap, ◌∙◌}
-use borrow.Author.Rules.{rules}
 use lib.Ieee.{Float}
 use Rattle.cut.specs.Candidate.{beats}
 use Rattle.cut.specs.Cut.{better}

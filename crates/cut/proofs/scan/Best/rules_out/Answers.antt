@@ -2,7 +2,6 @@
 use mathlib.Core.Path.{sym, ap}
 use Rattle.cut.specs.Scan.{ruled_out}
 use Rattle.cut.specs.declared.scan.Best.{Best}
-use borrow.Author.Rules.{rules}
 use Rattle.cut.proofs.scan.Best.rules_out.Goals as goal
 
 pub returns-in-Found : goal.returns-in-Found

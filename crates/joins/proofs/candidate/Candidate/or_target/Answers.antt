@@ -3,7 +3,6 @@ use mathlib.Core.Path.{sym, ap, ◌∙◌}
 use Rattle.lists.specs.Least.{earlier}
 use Rattle.joins.specs.Candidate.{comes_first}
 use Rattle.joins.proofs.Nearest.{not_earlier, is_earlier}
-use borrow.Author.Rules.{rules}
 use Rattle.joins.proofs.candidate.Candidate.or_target.Goals as goal
 
 pub returns-then-comes_before : goal.returns-then-comes_before

@@ -5,7 +5,6 @@ use lib.Ieee.{Float}
 use Rattle.bitset.specs.Entries.{differing}
 use Rattle.joins.specs.Candidate.{target_at}
 use Rattle.joins.specs.declared.candidate.Candidate.{Candidate}
-use borrow.Author.Rules.{rules}
 use Rattle.joins.proofs.candidate.Candidate.target_at.Goals as goal
 
 pub returns : goal.returns

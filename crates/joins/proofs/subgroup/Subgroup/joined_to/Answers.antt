@@ -1,5 +1,4 @@
 -- The united bits are what `BitSet::union` ensures.
-use borrow.Author.Rules.{rules}
 use mathlib.Core.Path.{ap}
 use lib.Ieee.{add, binary64}
 use Rattle.bitset.specs.declared.entries.BitSet.{BitSet}

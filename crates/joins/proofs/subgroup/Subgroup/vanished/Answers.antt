@@ -1,5 +1,4 @@
 -- The empty set is what `BitSet::new` ensures.
-use borrow.Author.Rules.{rules}
 use mathlib.Core.Path.{ap₂}
 use lib.Ieee.{Float}
 use Rattle.bitset.specs.declared.entries.BitSet.{BitSet}

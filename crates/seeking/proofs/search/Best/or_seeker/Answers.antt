@@ -1,9 +1,7 @@
 -- The best stays where one more does not take its place or does not seek.
 use mathlib.Core.Path.{sym, ◌∙◌}
-use borrow.Author.Tests.{not-true, not-false}
 use Rattle.joins.specs.Candidate.{seeking}
 use Rattle.seeking.proofs.Looking.{stays, passed_over, takes_over}
-use borrow.Author.Rules.{rules}
 use Rattle.seeking.proofs.search.Best.or_seeker.Goals as goal
 
 pub returns-then-not-gives_way : goal.returns-then-not-gives_way

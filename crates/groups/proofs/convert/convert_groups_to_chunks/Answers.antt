@@ -1,0 +1,232 @@
+-- `groups::convert::convert_groups_to_chunks` meets its contract: one group more a turn, and what walks pass over is closed.
+use Prim.Native.Nat.{ℕ, ◌≤◌}
+use mathlib.Core.Path.{◌≡◌, refl, sym, ap, ◌∙◌}
+use native.Mathlib.Omega.{arith}
+use lib.ListN.{length, take, drop, replicate, length-replicate}
+use lib.Seq.{length-take-le, length_front, take_at}
+use Rattle.lists.proofs.Stored.{zeros}
+use Rattle.forget.specs.Unfollowed.{unfollowed}
+use Rattle.walk.proofs.Trail.{unfollowed_bytes}
+use Rattle.emitting.proofs.Chunk.{same_lengths}
+use Rattle.closed.proofs.ClosedSets.{closed_none, closed_as}
+use Rattle.names.proofs.OrderOf.{places_free}
+use Rattle.groups.proofs.Turning.{none_turned, next_turning, one_turned, all_turned, number_small, record_in}
+use Rattle.groups.proofs.Turning.{given_few, given_flags, order_few, group_small, row_small, row_within}
+use Rattle.groups.proofs.convert.convert_groups_to_chunks.Goals as goal
+
+-- the front of an area of zeros
+zeros-long : {n : ℕ} → n ≤ 4096 → n ≤ length (replicate {A = ℕ} 4096 0)
+zeros-long h = omega (arith, length-replicate {A = ℕ} 4096 0)
+
+zeros-front : (n : ℕ) → n ≤ 4096 → length (take n (replicate {A = ℕ} 4096 0)) ≡ n
+zeros-front n h = length-take-le n (replicate 4096 0) (zeros-long h)
+
+pub store_places-requires : goal.store_places-requires
+store_places-requires c =
+    let p = c.requires.groups_turning in
+    places_free p.turning.fits.passed p.fits.walks (omega (arith, given_flags p, given_few p, length-replicate {A = ℕ} 4096 0))
+    (λ m. omega (arith, zeros 4096 m))
+
+pub slice_bounds-closed-end : goal.slice_bounds-closed-end
+slice_bounds-closed-end c =
+    omega (
+      arith,
+      given_few c.requires.groups_turning,
+    )
+
+pub slice_bounds-copy_bytes-end : goal.slice_bounds-copy_bytes-end
+slice_bounds-copy_bytes-end c =
+    sym (zeros-front c.args.n (given_few c.requires.groups_turning))
+
+pub copy_bytes-requires : goal.copy_bytes-requires
+copy_bytes-requires c =
+    given_flags c.requires.groups_turning ∙ sym (zeros-front c.args.n (given_few c.requires.groups_turning))
+
+pub loop-i-init : goal.loop-i-init
+unfolding unfollowed
+loop-i-init c =
+    let p = c.requires.groups_turning in
+    let n = c.args.n in
+    let r = c.copy_bytes in
+    let front = r.new.to in (
+      none_turned,
+      same_lengths _,
+      refl,
+      length-replicate {A = ℕ} 4096 0,
+      length-replicate {A = ℕ} 4096 0,
+      length-replicate {A = ℕ} 4096 0,
+      refl,
+      length_front (replicate 4096 0) front n r.auto.to ∙ length-replicate {A = ℕ} 4096 0,
+      closed_as (take_at front (drop n (replicate 4096 0)) n (ap length r.ensures ∙ given_flags p) ∙ r.ensures)
+          (closed_none c.args.flags.now c.args.first.now c.args.dependency.now c.args.next.now c.args.chunk_of.now),
+    )
+
+pub offset_bounds-turns-i : goal.offset_bounds-turns-i
+offset_bounds-turns-i c = omega (arith, c.loop-i-test.true, c.well_formed.1.0)
+
+pub bounds-turns-i : goal.bounds-turns-i
+bounds-turns-i c = c.loop-i-test.true
+
+pub overflow_cast-g : goal.overflow_cast-g
+overflow_cast-g c = omega (arith, group_small c.requires.groups_turning c.loop-i.i c.loop-i-test.true)
+
+pub overflow_mul-from : goal.overflow_mul-from
+overflow_mul-from c = omega (arith, row_small c.requires.groups_turning c.loop-i.i c.loop-i-test.true)
+
+pub overflow_add-to : goal.overflow_add-to
+overflow_add-to c = omega (arith, row_small c.requires.groups_turning c.loop-i.i c.loop-i-test.true)
+
+pub offset_bounds-settings-g : goal.offset_bounds-settings-g
+offset_bounds-settings-g c = omega (arith, group_small c.requires.groups_turning c.loop-i.i c.loop-i-test.true)
+
+pub bounds-settings-g : goal.bounds-settings-g
+bounds-settings-g c = group_small c.requires.groups_turning c.loop-i.i c.loop-i-test.true
+
+pub offset_bounds-turns-i-in-loop-i : goal.offset_bounds-turns-i-in-loop-i
+offset_bounds-turns-i-in-loop-i c = omega (arith, c.loop-i-test.true, c.well_formed.1.0)
+
+pub bounds-turns-i-in-loop-i : goal.bounds-turns-i-in-loop-i
+bounds-turns-i-in-loop-i c = c.loop-i-test.true
+
+pub offset_bounds-answers-from : goal.offset_bounds-answers-from
+offset_bounds-answers-from c = omega (arith, row_small c.requires.groups_turning c.loop-i.i c.loop-i-test.true)
+
+pub slice_bounds-convert_group-count : goal.slice_bounds-convert_group-count
+slice_bounds-convert_group-count c = omega (arith, row_small c.requires.groups_turning c.loop-i.i c.loop-i-test.true)
+
+pub slice_bounds-convert_group-start : goal.slice_bounds-convert_group-start
+slice_bounds-convert_group-start c = omega (arith, row_small c.requires.groups_turning c.loop-i.i c.loop-i-test.true)
+
+pub slice_bounds-convert_group-end : goal.slice_bounds-convert_group-end
+slice_bounds-convert_group-end c = row_within c.requires.groups_turning c.loop-i.i c.loop-i-test.true
+
+pub overflow_cast-made : goal.overflow_cast-made
+overflow_cast-made c = omega (arith, number_small c.loop-i.invariant.0 c.requires.groups_turning)
+
+pub overflow_add-number : goal.overflow_add-number
+overflow_add-number c = omega (arith, number_small c.loop-i.invariant.0 c.requires.groups_turning)
+
+pub overflow_add-at : goal.overflow_add-at
+overflow_add-at c =
+    let l = c.loop-i in
+    omega (arith, record_in l.invariant.0 c.requires.groups_turning, l.invariant.1.group_of, c.well_formed.1.1.1.1.1.1.1.1.1.1.1.1.1.1.1.1.1.1.1.1.0)
+
+pub slice_bounds-closed-end-in-loop-i : goal.slice_bounds-closed-end-in-loop-i
+slice_bounds-closed-end-in-loop-i c =
+    omega (
+      arith,
+      given_few c.requires.groups_turning,
+      c.loop-i.invariant.7,
+    )
+
+pub slice_bounds-convert_group-end-in-loop-i-2 : goal.slice_bounds-convert_group-end-in-loop-i-2
+slice_bounds-convert_group-end-in-loop-i-2 c =
+    let l = c.loop-i in
+    sym (length-take-le _ l.closed (omega (arith, given_few c.requires.groups_turning, l.invariant.7)))
+
+pub slice_bounds-marks-end : goal.slice_bounds-marks-end
+slice_bounds-marks-end c =
+    omega (arith, given_few c.requires.groups_turning, c.loop-i.invariant.3)
+
+pub slice_bounds-convert_group-end-in-loop-i-3 : goal.slice_bounds-convert_group-end-in-loop-i-3
+slice_bounds-convert_group-end-in-loop-i-3 c =
+    let l = c.loop-i in
+    sym (length-take-le _ l.marks (omega (arith, given_few c.requires.groups_turning, l.invariant.3)))
+
+pub slice_bounds-convert_group-end-in-loop-i-4 : goal.slice_bounds-convert_group-end-in-loop-i-4
+slice_bounds-convert_group-end-in-loop-i-4 c = sym (unfollowed_bytes c.loop-i.invariant.6)
+
+pub slice_bounds-convert_group-end-in-loop-i-5 : goal.slice_bounds-convert_group-end-in-loop-i-5
+slice_bounds-convert_group-end-in-loop-i-5 c = sym c.loop-i.invariant.4
+
+pub slice_bounds-convert_group-end-in-loop-i-6 : goal.slice_bounds-convert_group-end-in-loop-i-6
+slice_bounds-convert_group-end-in-loop-i-6 c = sym c.loop-i.invariant.5
+
+pub convert_group-made-requires : goal.convert_group-made-requires
+convert_group-made-requires c =
+    let p = c.requires.groups_turning in
+    let l = c.loop-i in
+    let placed = c.store_places in record {
+      group_turning = next_turning l.invariant.0 p _ c.loop-i-test.true;
+      names_room = (
+        record {
+          few = given_few p;
+          modules = given_flags p;
+          places = placed.ensures;
+          place_room = omega (arith, given_few p, placed.auto.place, length-replicate {A = ℕ} 4096 0);
+          mark_bytes = length-take-le _ l.marks (omega (arith, given_few p, l.invariant.3));
+          set_room = omega (arith, given_few p, l.invariant.4);
+          scratch_room = omega (arith, c.requires.n_in_bounds, l.invariant.2);
+          clear = l.invariant.6;
+        },
+        omega (arith, order_few p, l.invariant.5),
+        l.invariant.8,
+      );
+    }
+
+pub overflow_add-made : goal.overflow_add-made
+overflow_add-made c =
+    let l = c.loop-i in
+    let next = one_turned l.invariant.0 _ c.loop-i-test.true c.convert_group-made.ensures.group_turned in
+    let kept = c.convert_group-made.auto.group_of in
+    omega (arith, record_in next c.requires.groups_turning, l.invariant.1.group_of, kept, c.well_formed.1.1.1.1.1.1.1.1.1.1.1.1.1.1.1.1.1.1.1.1.0)
+
+pub overflow_add-i : goal.overflow_add-i
+overflow_add-i c =
+    omega (arith, c.loop-i-test.true, c.well_formed.1.0)
+
+pub loop-i-smaller : goal.loop-i-smaller
+loop-i-smaller c =
+    omega (arith, c.loop-i-test.true)
+
+pub loop-i-preserved : goal.loop-i-preserved
+loop-i-preserved c =
+    let l = c.loop-i in
+    let r = c.convert_group-made in
+    let same = l.invariant.1 in
+    let marks = r.new.marks in
+    let front = r.new.closed in
+    let n = c.args.n in
+    let fits = length-take-le n l.closed (omega (arith, given_few c.requires.groups_turning, l.invariant.7)) in (
+      one_turned l.invariant.0 _ c.loop-i-test.true r.ensures.group_turned,
+      record {
+        chunk_of = r.auto.chunk_of ∙ same.chunk_of;
+        group_of = r.auto.group_of ∙ same.group_of;
+        name_of = r.auto.name_of ∙ same.name_of;
+        size_of = r.auto.size_of ∙ same.size_of;
+        bits_of = r.auto.bits_of ∙ same.bits_of;
+        mark_of = r.auto.mark_of ∙ same.mark_of;
+      },
+      r.auto.scratch ∙ l.invariant.2,
+      length_front l.marks marks n r.auto.marks ∙ l.invariant.3,
+      r.auto.set ∙ l.invariant.4,
+      r.auto.matched ∙ l.invariant.5,
+      r.ensures.marks_len_unchanged.4,
+      length_front l.closed front n r.auto.closed ∙ l.invariant.7,
+      closed_as (take_at front (drop n l.closed) n (r.auto.closed ∙ fits)) r.ensures.marks_len_unchanged.5,
+    )
+
+pub shape_of-scratch : goal.shape_of-scratch
+shape_of-scratch c = c.loop-i.invariant.2
+
+pub shape_of-chunk_of : goal.shape_of-chunk_of
+shape_of-chunk_of c = c.loop-i.invariant.1.chunk_of
+
+pub shape_of-group_of : goal.shape_of-group_of
+shape_of-group_of c = c.loop-i.invariant.1.group_of
+
+pub shape_of-name_of : goal.shape_of-name_of
+shape_of-name_of c = c.loop-i.invariant.1.name_of
+
+pub shape_of-size_of : goal.shape_of-size_of
+shape_of-size_of c = c.loop-i.invariant.1.size_of
+
+pub shape_of-bits_of : goal.shape_of-bits_of
+shape_of-bits_of c = c.loop-i.invariant.1.bits_of
+
+pub shape_of-mark_of : goal.shape_of-mark_of
+shape_of-mark_of c = c.loop-i.invariant.1.mark_of
+
+pub returns : goal.returns
+returns c =
+    let l = c.loop-i in record { groups_turned = all_turned l.invariant.0 c.loop-i-test.false; scratch_len_unchanged = l.invariant.2 }

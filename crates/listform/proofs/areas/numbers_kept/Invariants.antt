@@ -1,0 +1,11 @@
+-- `listform::areas::numbers_kept` is safe and ends. The measure is what is left of the area.
+use Prim.Native.Nat.{◌-◌}
+use borrow.Author.Rules.{rules}
+use lib.ListN.{length}
+use Rattle.listform.proofs.areas.numbers_kept.Given as goal
+
+abbrev pub invariant-loop-i : goal.invariant-loop-i
+invariant-loop-i l = Unit {0}
+
+abbrev pub decreases-loop-i : goal.decreases-loop-i
+decreases-loop-i l = length l.area - l.i

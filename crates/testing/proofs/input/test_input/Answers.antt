@@ -1,0 +1,105 @@
+-- `testing::input::test_input` meets its contract: 1 to 3 by their number, then 4 to 10.
+use mathlib.Core.Path.{◌≡◌, ◌∙◌}
+use native.Mathlib.Omega.{arith}
+use Rattle.grouping.specs.Given.{Shared, Variant}
+use Rattle.conditions.specs.Ladder.{shape_tests}
+use Rattle.refusal.specs.Outcome.{first_number}
+use Rattle.testing.proofs.Handing.{build, hands_itself, hands_shape, hands_order, hands_content, content_ready, order_ready}
+use Rattle.testing.proofs.InputLadder.{shape_refuses, order_decides}
+use Rattle.testing.proofs.input.test_input.Goals as goal
+
+pub returns-then-shape-ne0 : goal.returns-then-shape-ne0
+returns-then-shape-ne0 c =
+    λ b h.
+    shape_refuses c.shape_number-shape.result (omega arith)
+    (c.shape_number-shape.ensures b
+    (hands_shape _ _ _ _ _ c.module_lengths-modules.ensures c.record_lengths-records.ensures c.group_lengths-groups.ensures h))
+
+pub test_order-requires : goal.test_order-requires
+test_order-requires c =
+    let a = c.args in
+    let s : Shared = record {
+      n = a.n;
+      e = a.e;
+      k = a.k;
+      d = a.d;
+      sizes = a.sizes.now;
+      orders = a.orders.now;
+      shares = a.shares.now;
+      tags = a.tags.now;
+      bits = a.bits.now;
+      bytes = a.bytes.now;
+      offsets = a.offsets.now;
+      first = a.first.now;
+      dependency = a.dependency.now;
+      next = a.next.now;
+      options = a.options;
+    } in
+    let v : Variant = record {
+      flags = a.flags.now;
+      g = a.g;
+      groups = record {
+        given = a.given.now;
+        min_size = a.min_size.now;
+        max_size = a.max_size.now;
+        min_module_size = a.min_module_size.now;
+        max_module_size = a.max_module_size.now;
+        min_share_count = a.min_share_count.now;
+        tags = a.group_tags.now;
+        priority = a.priority.now;
+        threshold = a.threshold.now;
+      };
+      answers = a.answers.now;
+    } in
+    let none : 0 ≡ c.shape_number-shape.result = omega arith in
+    let z : 0 ≡ first_number (shape_tests (build s v)) = none
+    ∙ c.shape_number-shape.ensures (build s v)
+    (hands_shape s v _ _ _ c.module_lengths-modules.ensures c.record_lengths-records.ensures c.group_lengths-groups.ensures (hands_itself s v)) in
+    (order_ready s v z _ _ c.requires.0 c.requires.1, content_ready s v z)
+
+pub returns : goal.returns
+returns c =
+    let a = c.args in
+    let s : Shared = record {
+      n = a.n;
+      e = a.e;
+      k = a.k;
+      d = a.d;
+      sizes = a.sizes.now;
+      orders = a.orders.now;
+      shares = a.shares.now;
+      tags = a.tags.now;
+      bits = a.bits.now;
+      bytes = a.bytes.now;
+      offsets = a.offsets.now;
+      first = a.first.now;
+      dependency = a.dependency.now;
+      next = a.next.now;
+      options = a.options;
+    } in
+    let v : Variant = record {
+      flags = a.flags.now;
+      g = a.g;
+      groups = record {
+        given = a.given.now;
+        min_size = a.min_size.now;
+        max_size = a.max_size.now;
+        min_module_size = a.min_module_size.now;
+        max_module_size = a.max_module_size.now;
+        min_share_count = a.min_share_count.now;
+        tags = a.group_tags.now;
+        priority = a.priority.now;
+        threshold = a.threshold.now;
+      };
+      answers = a.answers.now;
+    } in
+    let none : 0 ≡ c.shape_number-shape.result = omega (arith, c.if-shape-ne0.false) in
+    let z : 0 ≡ first_number (shape_tests (build s v)) = none
+    ∙ c.shape_number-shape.ensures (build s v)
+    (hands_shape s v _ _ _ c.module_lengths-modules.ensures c.record_lengths-records.ensures c.group_lengths-groups.ensures (hands_itself s v)) in
+    λ b h.
+    order_decides
+    (none
+    ∙ c.shape_number-shape.ensures b
+    (hands_shape s v _ _ _ c.module_lengths-modules.ensures c.record_lengths-records.ensures c.group_lengths-groups.ensures h))
+    (c.test_order.ensures b (hands_order s v z h) (hands_content s v z h))
