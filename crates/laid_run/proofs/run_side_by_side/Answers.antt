@@ -4,47 +4,10 @@ use Rattle.laid_run.proofs.RecordsLeft.{few_records}
 use Rattle.laid_run.proofs.run_side_by_side.Goals as goal
 
 pub worth_laying-requires : goal.worth_laying-requires
-worth_laying-requires c =
-    few_records c.requires.b ((record {
-      settings = c.args.settings;
-      g = c.args.g;
-      asked = record { answers = c.args.answers.now; tags = c.args.tags.now; shares = c.args.shares.now };
-      n = c.args.n;
-      tables =
-          record { bytes = c.args.bytes.now; offsets = c.args.offsets.now; sizes = c.args.sizes.now; rank = c.args.rank.now };
-      bits = c.args.bits.now;
-      walking =
-          record {
-            flags = c.args.flags.now;
-            first = c.args.first.now;
-            dependency = c.args.dependency.now;
-            next = c.args.next.now;
-            order = c.args.by_order.now;
-          };
-    })) c.args.on_entry c.requires.fits
+worth_laying-requires c = few_records c.requires.b _ _ c.requires.fits
 
 pub run_laid-requires : goal.run_laid-requires
-run_laid-requires c =
-    record {
-      le_room = few_records c.requires.b ((record {
-        settings = c.args.settings;
-        g = c.args.g;
-        asked = record { answers = c.args.answers.now; tags = c.args.tags.now; shares = c.args.shares.now };
-        n = c.args.n;
-        tables =
-            record { bytes = c.args.bytes.now; offsets = c.args.offsets.now; sizes = c.args.sizes.now; rank = c.args.rank.now };
-        bits = c.args.bits.now;
-        walking =
-            record {
-              flags = c.args.flags.now;
-              first = c.args.first.now;
-              dependency = c.args.dependency.now;
-              next = c.args.next.now;
-              order = c.args.by_order.now;
-            };
-      })) c.args.on_entry c.requires.fits;
-      running = c.requires;
-    }
+run_laid-requires c = record { le_room = few_records c.requires.b _ _ c.requires.fits; running = c.requires }
 
 pub run_laid-requires-2 : goal.run_laid-requires-2
 run_laid-requires-2 c = record { le_room = (omega arith, omega arith); running = c.requires }
