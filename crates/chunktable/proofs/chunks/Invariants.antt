@@ -1,6 +1,5 @@
 -- `chunktable::chunks` is safe and ends: one record after the other, up to the count.
 use Prim.Native.Nat.{◌≤◌, ◌-◌}
-use borrow.Author.Rules.{rules}
 use Rattle.chunktable.proofs.chunks.Given as goal
 
 abbrev pub invariant-loop-at : goal.invariant-loop-at

@@ -1,6 +1,5 @@
 -- `chunktable::modules` is safe and ends: it takes at most as many steps as there are modules.
 use Prim.Native.Nat.{◌≤◌, ◌-◌}
-use borrow.Author.Rules.{rules}
 use lib.ListN.{length}
 use Rattle.chunktable.proofs.modules.Given as goal
 

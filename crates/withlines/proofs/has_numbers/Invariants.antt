@@ -1,5 +1,5 @@
 -- `withlines::has_numbers` is safe and ends. The measure is the number of words that are left.
-use Rattle.std.proofs.Common.{◌-◌, rules}
+use Rattle.std.proofs.Common.{◌-◌}
 use Rattle.withlines.proofs.has_numbers.Given as goal
 
 abbrev pub invariant-loop-i : goal.invariant-loop-i

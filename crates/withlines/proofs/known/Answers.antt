@@ -1,5 +1,5 @@
 -- `withlines::known` is safe and ends. The measure is what is left of the text.
-use Rattle.std.proofs.Common.{◌-◌, length, arith, rules}
+use Rattle.std.proofs.Common.{arith}
 use Rattle.withlines.proofs.known.Goals as goal
 
 pub overflow_add-next : goal.overflow_add-next

@@ -1,6 +1,5 @@
 -- `buildform::damage::read_damage` is safe and ends. The measure is the number of lines that may follow.
 use Prim.Native.Nat.{◌-◌}
-use borrow.Author.Rules.{rules}
 use Rattle.buildform.proofs.damage.read_damage.Given as goal
 
 abbrev pub invariant-loop-i : goal.invariant-loop-i

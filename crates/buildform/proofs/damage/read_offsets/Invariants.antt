@@ -1,6 +1,5 @@
 -- `buildform::damage::read_offsets` is safe and ends. The measure is the number of offsets that are left.
 use Prim.Native.Nat.{◌+◌, ◌-◌}
-use borrow.Author.Rules.{rules}
 use Rattle.buildform.proofs.damage.read_offsets.Given as goal
 
 abbrev pub invariant-loop-i : goal.invariant-loop-i

@@ -1,6 +1,5 @@
 -- `buildform::damage::set_groups` is safe and ends. The measure is the number of tables that are left.
 use Prim.Native.Nat.{◌-◌}
-use borrow.Author.Rules.{rules}
 use Rattle.buildform.proofs.damage.set_groups.Given as goal
 
 abbrev pub invariant-loop-i : goal.invariant-loop-i

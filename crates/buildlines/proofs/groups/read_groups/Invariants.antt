@@ -1,6 +1,5 @@
 -- `buildlines::groups::read_groups` is safe and ends. The measure is the number of groups that are left.
 use Prim.Native.Nat.{◌-◌}
-use borrow.Author.Rules.{rules}
 use Rattle.buildlines.proofs.groups.read_groups.Given as goal
 
 abbrev pub invariant-loop-i : goal.invariant-loop-i

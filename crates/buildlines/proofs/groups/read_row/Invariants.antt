@@ -1,6 +1,5 @@
 -- `buildlines::groups::read_row` is safe and ends. The measure is the number of answers that are left.
 use Prim.Native.Nat.{◌-◌}
-use borrow.Author.Rules.{rules}
 use Rattle.buildlines.proofs.groups.read_row.Given as goal
 
 abbrev pub invariant-loop-i : goal.invariant-loop-i

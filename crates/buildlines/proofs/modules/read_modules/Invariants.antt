@@ -1,7 +1,6 @@
 -- `buildlines::modules::read_modules` is safe and ends.
 -- The place past the ids stays within their area. The measure is the number of modules that are left.
 use Prim.Native.Nat.{◌≤◌, ◌-◌}
-use borrow.Author.Rules.{rules}
 use Rattle.buildlines.proofs.modules.read_modules.Given as goal
 
 abbrev pub invariant-loop-i : goal.invariant-loop-i

@@ -1,6 +1,5 @@
 -- `buildlines::modules::read_records` is safe and ends. The measure is the number of records that are left.
 use Prim.Native.Nat.{◌-◌}
-use borrow.Author.Rules.{rules}
 use Rattle.buildlines.proofs.modules.read_records.Given as goal
 
 abbrev pub invariant-loop-i : goal.invariant-loop-i

@@ -1,5 +1,5 @@
 -- `largestlist::chunks::follow` is safe and ends. The measure is the number of steps that are left.
-use Rattle.std.proofs.Common.{◌-◌, rules}
+use Rattle.std.proofs.Common.{◌-◌}
 use Rattle.largestlist.proofs.chunks.follow.Given as goal
 
 abbrev pub invariant-loop-i : goal.invariant-loop-i

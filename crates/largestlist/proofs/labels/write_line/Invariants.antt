@@ -1,5 +1,5 @@
 -- `largestlist::labels::write_line` is safe and ends. The measure is the number of lines that are passed over yet.
-use Rattle.std.proofs.Common.{◌-◌, rules}
+use Rattle.std.proofs.Common.{◌-◌}
 use Rattle.largestlist.proofs.labels.write_line.Given as goal
 
 abbrev pub invariant-loop-i : goal.invariant-loop-i

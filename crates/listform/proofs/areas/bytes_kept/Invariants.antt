@@ -1,6 +1,5 @@
 -- `listform::areas::bytes_kept` is safe and ends. The measure is what is left of the area.
 use Prim.Native.Nat.{◌-◌}
-use borrow.Author.Rules.{rules}
 use lib.ListN.{length}
 use Rattle.listform.proofs.areas.bytes_kept.Given as goal
 

@@ -1,6 +1,5 @@
 -- `listform::list::chunk_of_modules` is safe and ends. The measure is the number of modules that are left.
 use Prim.Native.Nat.{◌-◌}
-use borrow.Author.Rules.{rules}
 use Rattle.listform.proofs.list.chunk_of_modules.Given as goal
 
 abbrev pub invariant-loop-i : goal.invariant-loop-i

@@ -1,6 +1,5 @@
 -- `listform::list::chunks` is safe and ends. The measure is the number of chunks that are left.
 use Prim.Native.Nat.{◌-◌}
-use borrow.Author.Rules.{rules}
 use Rattle.listform.proofs.list.chunks.Given as goal
 
 abbrev pub invariant-loop-i : goal.invariant-loop-i

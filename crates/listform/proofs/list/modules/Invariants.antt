@@ -1,6 +1,5 @@
 -- `listform::list::modules` is safe and ends: it takes at most as many steps as there are modules.
 use Prim.Native.Nat.{◌-◌}
-use borrow.Author.Rules.{rules}
 use Rattle.listform.proofs.list.modules.Given as goal
 
 abbrev pub invariant-loop-i : goal.invariant-loop-i

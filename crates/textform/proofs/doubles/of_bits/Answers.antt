@@ -1,5 +1,5 @@
 -- `textform::doubles::of_bits` is safe: a pattern that the test leaves is no NaN's.
-use Rattle.std.proofs.Common.{Bool, not, T, sym, ◌∙◌, subst, rules, le-ltb}
+use Rattle.std.proofs.Common.{Bool, not, T, sym, ◌∙◌, subst, le-ltb}
 use lib.Ieee.Bits.{nan_bits_above}
 use lib.Ieee.{binary64}
 use Rattle.textform.proofs.doubles.of_bits.Goals as goal

@@ -1,5 +1,5 @@
 -- `textform::numbers::number_of` is safe and ends. The measure is the number of digits that are left.
-use Rattle.std.proofs.Common.{◌-◌, length, rules}
+use Rattle.std.proofs.Common.{◌-◌, length}
 use Rattle.textform.proofs.numbers.number_of.Given as goal
 
 abbrev pub invariant-loop-i : goal.invariant-loop-i

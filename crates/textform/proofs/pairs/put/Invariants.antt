@@ -1,5 +1,5 @@
 -- `textform::pairs::put` is safe and ends. The measure is the number of pairs that are left.
-use Rattle.std.proofs.Common.{◌-◌, rules}
+use Rattle.std.proofs.Common.{◌-◌}
 use Rattle.textform.proofs.pairs.put.Given as goal
 
 abbrev pub invariant-loop-i : goal.invariant-loop-i

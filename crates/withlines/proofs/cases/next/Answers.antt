@@ -1,6 +1,6 @@
 -- `withlines::cases::next` stays between the place that it starts from and the end of the text.
 -- The place is past the end by one at most, which the invariant says. The measure is what is left of the text.
-use Rattle.std.proofs.Common.{◌+◌, ◌-◌, ◌≤◌, length, arith, rules}
+use Rattle.std.proofs.Common.{arith, rules}
 use Rattle.withlines.proofs.cases.next.Goals as goal
 
 pub returns-then-not-passed_over : goal.returns-then-not-passed_over

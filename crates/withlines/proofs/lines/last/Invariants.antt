@@ -1,5 +1,5 @@
 -- `withlines::lines::last` is safe and ends. The measure is what is left of the text.
-use Rattle.std.proofs.Common.{◌-◌, length, arith, rules}
+use Rattle.std.proofs.Common.{◌-◌, length}
 use Rattle.withlines.proofs.lines.last.Given as goal
 
 abbrev pub invariant-loop-from : goal.invariant-loop-from

@@ -1,6 +1,6 @@
 -- `withlines::offsets::spoil` is safe and ends. The table keeps its length, which the invariant says. The measure is the number of offsets
 -- that are left.
-use Rattle.std.proofs.Common.{◌≡◌, ◌-◌, length, rules}
+use Rattle.std.proofs.Common.{◌≡◌, ◌-◌, length}
 use Rattle.withlines.proofs.offsets.spoil.Given as goal
 
 abbrev pub invariant-loop-i : goal.invariant-loop-i

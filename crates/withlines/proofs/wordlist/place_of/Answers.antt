@@ -1,5 +1,5 @@
 -- `withlines::wordlist::place_of` is safe and ends. The measure is what is left of the list.
-use Rattle.std.proofs.Common.{◌-◌, ◌≤◌, length, arith, rules}
+use Rattle.std.proofs.Common.{arith}
 use Rattle.withlines.proofs.wordlist.place_of.Goals as goal
 
 pub overflow_add-next : goal.overflow_add-next

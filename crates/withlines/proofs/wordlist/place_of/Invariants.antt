@@ -1,5 +1,5 @@
 -- `withlines::wordlist::place_of` is safe and ends. The measure is what is left of the list.
-use Rattle.std.proofs.Common.{◌-◌, ◌≤◌, length, arith, rules}
+use Rattle.std.proofs.Common.{◌-◌, ◌≤◌, length}
 use Rattle.withlines.proofs.wordlist.place_of.Given as goal
 
 abbrev pub invariant-loop-at : goal.invariant-loop-at
