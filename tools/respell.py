@@ -5,7 +5,8 @@ usage: python3 tools/respell.py [--clashes] [--table]
 
 Run at the top of the repository, once, right after the toolchain's port.py. A name is taken if specs/ or a lemma file of proofs/
 declares it in lower case with a hump or a dash: each hump becomes an underscore, each dash too, and getD reads get_or. A lemma that
-would get the name of a definition has _lem behind it. Comments and strings keep their words, but for names with a hump.
+would get the name of a definition has _lem behind it. Comments and strings keep their words, but for names with a hump. In clauses
+p.entry.now and p.exit.now of a reference read p.now, p.old or p.new.
 --clashes lists the files in which two names would fall together, and writes nothing; --table prints old and new names, and writes nothing.
 """
 
@@ -107,6 +108,39 @@ def words_of(text, kind):
     return found
 
 
+def behind(text, at):
+    """The place behind the bracket that closes the one before `at`."""
+    depth = 1
+    while depth:
+        depth += (text[at] in "([{") - (text[at] in ")]}")
+        at += 1
+    return at
+
+
+def with_plain_references(text):
+    """The text of a .rt file, with what references point to named as today in the clauses of its functions."""
+    clause = re.compile(r"\s*(?:->\s*(?:\[[^\]]*\]|[^{;])*?(?=\s*(?:requires|ensures|\{|;)))?\s*(requires|ensures)\s*\*?\s*\w*\s*\{")
+    at = 0
+    while m := re.compile(r"\bfn \w+\s*(?:<[^>]*>)?\s*\(").search(text, at):
+        at = behind(text, m.end())
+        kinds = {p[1]: p[2] or "" for p in re.finditer(r"(\w+)\s*:\s*(&mut |&)?", text[m.end() : at - 1])}
+        while c := clause.match(text, at):
+
+            def name(it):
+                kind, says = kinds.get(it[1]), it[2]
+                if kind == "&" and says != ".now":
+                    return it[1] + ".now"
+                if kind == "&mut " and (says != ".now" or c[1] == "requires"):
+                    return it[1] + (".new" if says == ".exit.now" else ".old")
+                return it[0]
+
+            end = behind(text, c.end())
+            body = re.sub(r"(?<![\w.])(\w+)(\.entry\.now|\.exit\.now|\.now)(?![\w.])", name, text[c.end() : end])
+            text = text[: c.end()] + body + text[end:]
+            at = c.end() + len(body)
+    return text
+
+
 def main(argv):
     names = table()
     if "--table" in argv:
@@ -134,6 +168,8 @@ def main(argv):
                     clashes += 1
             continue
         new = turned(text, kind, names | here)
+        if kind == "rt":
+            new = with_plain_references(new)
         if new != text:
             with open(path, "w", encoding="utf-8") as f:
                 f.write(new)
