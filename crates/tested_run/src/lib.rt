@@ -3,8 +3,8 @@
 
 ghost use Rattle.tested_run.specs.RunInput.{Runnable, TestedRan};
 
-use laid_run::run_side_by_side;
 use options::Options;
+use run::run;
 use turns::settings::all_settings;
 
 // Runs a build that has passed the tests. The first new chunk has the record `at`. Answers how many chunks there are.
@@ -153,7 +153,7 @@ pub fn run_tested(
         threshold,
         g,
     );
-    run_side_by_side(
+    run(
         settings,
         g,
         answers,

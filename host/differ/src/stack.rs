@@ -21,7 +21,7 @@ use crate::{
 };
 
 /// Below the size of a huge page, so that the stack is given in small ones.
-const STACK: usize = (1 << 21) - (1 << 16);
+const STACK: usize = 1 << 20;
 
 /// How far down the stack is looked at; the rest is left to what lies above the call.
 const LOOKED_AT: usize = STACK - (1 << 16);

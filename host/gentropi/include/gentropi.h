@@ -108,7 +108,7 @@ enum gentropi_answer {
 #define GENTROPI_FILTER_STACK_BYTES ((size_t)4096)
 #define GENTROPI_CAPTURE_STACK_BYTES ((size_t)163840)
 #define GENTROPI_MERGE_STACK_BYTES ((size_t)65536)
-#define GENTROPI_CHUNKS_STACK_BYTES ((size_t)1310720)
+#define GENTROPI_CHUNKS_STACK_BYTES ((size_t)589824)
 #define GENTROPI_NAME_STACK_BYTES ((size_t)4096)
 
 /* Similarity of two ids. Writes `score`. */

@@ -59,7 +59,7 @@ pub const fn stack_bytes(call: Call) -> usize {
         Call::Similarity | Call::Cut | Call::Filter | Call::Name => 4,
         Call::Capture => 160,
         Call::Merge => 64,
-        Call::Chunks => 1_280,
+        Call::Chunks => 576,
     };
     kilobytes * 1_024
 }

@@ -7,49 +7,9 @@ use text::{
 
 use super::tree::{self, Area};
 
-/// Four groups over 16 entries, each for every module: by folder under 16 names, by area, whatever
-/// two entries share, and all. Most of the folders' sets are cut once.
+/// Three groups: packages under 16 names, the user interface, and whatever two entries share. The
+/// larger sets are cut.
 pub fn flat(count: u32) -> Build {
-    let answers: [fn(u32) -> u32; 4] = [
-        |number| 2 + tree::folder(number) % 16,
-        |number| match tree::area(number) {
-            Area::Vendor(_) => 18,
-            Area::Ui => 19,
-            Area::App => 20,
-        },
-        |_| 21,
-        |_| 22,
-    ];
-    let shared = Options { min_share_count: Some(2), ..Options::default() };
-    Build {
-        entries: 16,
-        names: 21,
-        options: by_count(count),
-        modules: over_sixteen_entries(tree::modules(count)),
-        groups: vec![
-            Group { priority: Some(10), ..Group::default() },
-            Group { priority: Some(5), ..Group::default() },
-            Group { options: shared, ..Group::default() },
-            Group::default(),
-        ],
-        answers: answers.map(|answer| (0..count).map(answer).collect()).into(),
-        ..Build::default()
-    }
-}
-
-/// The same modules with entry bits of 16 entries.
-fn over_sixteen_entries(mut modules: Vec<Module>) -> Vec<Module> {
-    for (number, module) in (0..).zip(&mut modules) {
-        let bits = 1 + drawn(2, number) % 65_535;
-        module.bits = [u64::from(bits), 0, 0, 0];
-        module.share_count = bits.count_ones();
-    }
-    modules
-}
-
-/// Three groups that match a module once or twice: packages under 16 names, the user interface, and
-/// whatever two of three entries share. The larger sets are cut.
-pub fn few_matched(count: u32) -> Build {
     let answers: [fn(u32) -> u32; 3] = [
         |number| if let Area::Vendor(package) = tree::area(number) { 2 + package % 16 } else { 0 },
         |number| if tree::area(number) == Area::Ui { 18 } else { 0 },
@@ -122,20 +82,10 @@ pub fn one_group(modules: Vec<Module>, group: Group) -> Build {
     }
 }
 
-/// Sixteen groups at four priorities, each for every module.
+/// Sixteen groups, each for half of the folders, at four priorities.
 pub fn sixteen_groups(count: u32) -> Build {
-    Build { options: by_count(count), ..groups_matching(count, |_, _| true) }
-}
-
-/// Sixteen groups, each for half of the folders.
-pub fn half_matched(count: u32) -> Build {
-    let matches = |group, number| drawn(8 + group, tree::folder(number)) % 2 == 0;
-    Build { options: limits(10_000.0, 300_000.0), ..groups_matching(count, matches) }
-}
-
-/// Sixteen groups with a name each, for the modules that a test says.
-fn groups_matching(count: u32, matches: impl Fn(u32, u32) -> bool) -> Build {
     let group = |group: u32| Group { priority: Some(drawn(7, group) % 4), ..Group::default() };
+    let matches = |group: u32, number| drawn(8 + group, tree::folder(number)) % 2 == 0;
     let answers = |group: u32| {
         let answer = |number| if matches(group, number) { 2 + group } else { 0 };
         (0..count).map(answer).collect()
@@ -143,16 +93,12 @@ fn groups_matching(count: u32, matches: impl Fn(u32, u32) -> bool) -> Build {
     Build {
         entries: 3,
         names: 16,
+        options: limits(10_000.0, 300_000.0),
         modules: tree::modules(count),
         groups: (0..16).map(group).collect(),
         answers: (0..16).map(answers).collect(),
         ..Build::default()
     }
-}
-
-/// A maximum that grows with the modules, so that about as many sets are cut whatever their count.
-pub fn by_count(count: u32) -> Options {
-    limits(10_000.0, 256.0 * f64::from(count))
 }
 
 /// A minimum and a maximum for what becomes a chunk.

@@ -7,29 +7,12 @@ use text::{
 
 use super::{flat, tree};
 
-/// How many layers of modules there are, a module's number less a multiple of this being its layer,
-/// and one module in how many has no dependencies, more or less.
-#[derive(Clone, Copy)]
-struct Layers {
-    count: u32,
-    without: u32,
-}
+/// How many layers there are; a module's number less a multiple of this is its layer.
+const LAYERS: u32 = 24;
 
-/// The graph of deep builds.
-const DENSE: Layers = Layers { count: 48, without: 3 };
-
-/// One in which less is reached.
-const SPARSE: Layers = Layers { count: 24, without: 2 };
-
-/// Layers of modules, of which two in three have dependencies, and a group that matches all of them
-/// under one name.
+/// Layers of modules, and a group that matches all of them under one name.
 pub fn deep(count: u32) -> Build {
-    Build { options: flat::by_count(count), ..layered(count, DENSE) }
-}
-
-/// The same with fewer layers, where every second module has dependencies.
-pub fn sparse(count: u32) -> Build {
-    Build { options: flat::limits(10_000.0, 300_000.0), ..layered(count, SPARSE) }
+    Build { options: flat::limits(10_000.0, 300_000.0), ..layered(count) }
 }
 
 /// The same divided by entry bits of 120 kinds, of which the small ones join others.
@@ -45,24 +28,19 @@ pub fn aware(count: u32) -> Build {
     build
 }
 
-/// Deep builds without a limit.
-pub fn unlimited(count: u32) -> Build {
-    layered(count, DENSE)
-}
-
-/// The modules of a tree. Those with dependencies depend on three of the next layer and one of any
-/// layer below, so that each of them reaches most of what lies below. Lower layers are first in
-/// execution order.
-fn layered(count: u32, layers: Layers) -> Build {
+/// The modules of a tree. Every second one or so depends on three of the next layer and one of any
+/// layer below, so that each of these reaches most of what lies below. Lower layers are
+/// first in execution order.
+pub fn layered(count: u32) -> Build {
     let mut modules = tree::modules(count);
     let mut numbers = shuffled(33, count);
-    numbers.sort_by_key(|number| layers.count - number % layers.count);
+    numbers.sort_by_key(|number| LAYERS - number % LAYERS);
     for (order, number) in (0..).zip(numbers) {
         modules[number as usize].order = order;
     }
     let mut records = Vec::new();
     for number in 0..count {
-        let below = layers.dependencies(number, count);
+        let below = dependencies(number, count);
         let first = records.len() as u32 + 1;
         modules[number as usize].first_record = if below.is_empty() { 0 } else { first };
         chain(&mut records, &below);
@@ -70,24 +48,21 @@ fn layered(count: u32, layers: Layers) -> Build {
     Build { records, ..flat::one_group(modules, Group::default()) }
 }
 
-impl Layers {
-    /// The modules that one depends on.
-    fn dependencies(self, number: u32, count: u32) -> Vec<u32> {
-        let layer = number % self.count;
-        let below = (layer + 1..self.count.min(count)).len() as u32;
-        if below == 0 || drawn(30, number).is_multiple_of(self.without) {
-            return Vec::new();
-        }
-        let layers = [1, 1, 1, 1 + drawn(34, number) % below].map(|down| layer + down);
-        let named = |(place, layer)| self.one_of(layer, count, 4 * number + place);
-        (0..).zip(layers).map(named).collect()
+/// The modules that one depends on.
+fn dependencies(number: u32, count: u32) -> Vec<u32> {
+    let layer = number % LAYERS;
+    let below = (layer + 1..LAYERS.min(count)).len() as u32;
+    if below == 0 || drawn(30, number).is_multiple_of(2) {
+        return Vec::new();
     }
+    let layers = [1, 1, 1, 1 + drawn(34, number) % below].map(|down| layer + down);
+    (0..).zip(layers).map(|(place, layer)| of_layer(layer, count, 4 * number + place)).collect()
+}
 
-    /// One of the modules of a layer.
-    fn one_of(self, layer: u32, count: u32, place: u32) -> u32 {
-        let width = (count - layer).div_ceil(self.count);
-        layer + self.count * (drawn(35, place) % width)
-    }
+/// One of the modules of a layer.
+fn of_layer(layer: u32, count: u32, place: u32) -> u32 {
+    let width = (count - layer).div_ceil(LAYERS);
+    layer + LAYERS * (drawn(35, place) % width)
 }
 
 /// Adds the records of one module.

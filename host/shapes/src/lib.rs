@@ -53,9 +53,6 @@ pub const ALL: &[Shape] = &[
     shape("different", "all bits different, no merge", aware::all_different),
     shape("merge16", "merge of many kinds, 16 entries", aware::merge_16),
     shape("merge256", "merge of many kinds, 256 entries", aware::merge_256),
-    shape("few", "flat, few matched", flat::few_matched),
-    shape("sparse", "deep, sparse", graph::sparse),
-    shape("half", "16 groups, half matched", flat::half_matched),
     Shape { key: "limits", label: "all limits", build: limits::all, counts: LARGEST },
     Shape {
         key: "chain",

@@ -11,7 +11,7 @@ pub fn flat(count: u32) -> Build {
 
 /// Sets of whatever a module reaches.
 pub fn deep(count: u32) -> Build {
-    named(graph::unlimited(count))
+    named(graph::layered(count))
 }
 
 /// All modules matched, each under a name of its own.

@@ -9,8 +9,8 @@ all_settings-settings-requires c = has_groups c.requires.b _ c.requires.fits
 pub overflow_cast-on_entry : goal.overflow_cast-on_entry
 overflow_cast-on_entry c = omega (arith, c.requires.small)
 
-pub run_side_by_side-requires : goal.run_side_by_side-requires
-run_side_by_side-requires c =
+pub run-requires : goal.run-requires
+run-requires c =
     let p = c.requires in
     record {
       b = p.b;
@@ -23,5 +23,5 @@ pub returns : goal.returns
 returns c =
     record {
       of_build = λ b fits.
-          c.run_side_by_side.ensures.of_build b (run_fits b _ fits c.all_settings-settings.result c.all_settings-settings.ensures);
+          c.run.ensures.of_build b (run_fits b _ fits c.all_settings-settings.result c.all_settings-settings.ensures);
     }
