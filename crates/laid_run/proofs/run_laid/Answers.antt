@@ -33,7 +33,7 @@ run-requires-2 c =
     let p = c.requires.running in
     let same =
     of_build p.b _ _ p.fits c.lay_chains-count.new.to_first
-    (⊎_elim (λ none. absurd (c.if-count-eq0.false none)) (λ laid. laid) c.lay_chains-count.ensures.laid) in
+    (⊎_elim (λ none. absurd (omega arith)) (λ laid. laid) c.lay_chains-count.ensures.laid) in
     record {
       b = _;
       fits = relaid_fits p.b _ _ _ _ p.fits.tables.passed same _ _ p.fits;
@@ -47,7 +47,7 @@ returns c =
       of_build = λ b fits.
           let same =
           of_build b _ _ fits c.lay_chains-count.new.to_first
-          (⊎_elim (λ none. absurd (c.if-count-eq0.false none)) (λ laid. laid) c.lay_chains-count.ensures.laid) in
+          (⊎_elim (λ none. absurd (omega arith)) (λ laid. laid) c.lay_chains-count.ensures.laid) in
           ran_same b _ _ _ _ fits.tables.passed same _ _ _ _
           (c.run-2.ensures.of_build _ (relaid_fits b _ _ _ _ fits.tables.passed same _ _ fits));
     }

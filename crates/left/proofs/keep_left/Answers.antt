@@ -4,7 +4,6 @@ use borrow.Author.Tests.{eq-eqb, ne_eqb}
 use lib.ListN.{get_or}
 use Rattle.left.proofs.KeepLeft.{none_kept, one_kept, one_passed, all_kept}
 use Rattle.left.proofs.keep_left.Goals as goal
-use Rattle.left.proofs.keep_left.Goals.{else-chunk_of-m-eq0, then-chunk_of-m-eq0}
 
 pub loop-i-init : goal.loop-i-init
 loop-i-init c = none_kept _ _ _
@@ -30,7 +29,6 @@ loop-i-preserved c =
     let l = c.loop-i in
     let a = c.args in
     let m = get_or a.list.now l.i 0 in
-    (elim c.if-chunk_of-m-eq0.branch [
-      | then-chunk_of-m-eq0 w ↦ rw w.count-is (one_kept l.invariant c.loop-i-test.true (omega arith) (eq-eqb (get_or a.chunk_of.now m 0) 0 w.if-chunk_of-m-eq0.true))
-      | else-chunk_of-m-eq0 w ↦ rw w.count-is (one_passed l.invariant c.loop-i-test.true (ne_eqb (get_or a.chunk_of.now m 0) 0 w.if-chunk_of-m-eq0.false))
-    ])
+    let kept = one_kept l.invariant c.loop-i-test.true in
+    let passed = one_passed l.invariant c.loop-i-test.true in
+    grind (arith, eq-eqb, ne_eqb, kept, passed)

@@ -1,11 +1,10 @@
 -- `matching::matched::gather_named` meets its contract: one place more a turn, if its module has a name.
-use Rattle.std.proofs.Common.{◌≡◌, ◌<◌, length, get_or, ◌∙◌, arith, le-leb}
+use Rattle.std.proofs.Common.{◌≡◌, ◌<◌, ◌≤◌, length, get_or, ◌∙◌, arith, le-leb}
 use borrow.Author.Tests.{lt-leb}
 use Rattle.matching.specs.Matched.{named_only}
 use Rattle.matching.proofs.Gathering.{keys_none, keys_in, keys_out, keys_all, takes_by_name, nothing_asked}
 use Rattle.matching.proofs.Writing.{none_written, one_written, none_stored, has_room}
 use Rattle.matching.proofs.matched.gather_named.Goals as goal
-use Rattle.matching.proofs.matched.gather_named.Goals.{else-answer-ge2, then-answer-ge2}
 
 pub loop-place-init : goal.loop-place-init
 loop-place-init c =
@@ -72,10 +71,7 @@ loop-place-preserved c =
     let m = get_or o l.place 0 in
     let answer = get_or c.args.answers.now m 0 in
     let r : l.place < length c.args.keys.now = omega (arith, c.requires.room) in
-    let q = takes_by_name g m nothing_asked in (
-      omega arith,
-      (elim c.if-answer-ge2.branch [
-        | then-answer-ge2 w ↦ rw w.count-is (one_written l.invariant.1 k.result (keys_in g o l.place k.result k.ensures (q ∙ le-leb 2 answer w.if-answer-ge2.true)) r)
-        | else-answer-ge2 w ↦ rw w.count-is (none_stored l.invariant.1 k.result (keys_out g o l.place (q ∙ lt-leb 2 answer w.if-answer-ge2.false)))
-      ]),
-    )
+    let q = takes_by_name g m nothing_asked in
+    let written = λ (e : 2 ≤ answer). one_written l.invariant.1 k.result (keys_in g o l.place k.result k.ensures (q ∙ le-leb 2 answer e)) r in
+    let passed = λ (e : answer < 2). none_stored l.invariant.1 k.result (keys_out g o l.place (q ∙ lt-leb 2 answer e)) in
+    (omega arith, grind (arith, written, passed))
