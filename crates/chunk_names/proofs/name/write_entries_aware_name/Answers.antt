@@ -15,4 +15,4 @@ pub returns-then-length-le-MAX_CHUNK_NAME_LEN : goal.returns-then-length-le-MAX_
 returns-then-length-le-MAX_CHUNK_NAME_LEN c = appended_as (short_name c.write_full_name-length.ensures refl c.args.hash.now c.if-length-le-MAX_CHUNK_NAME_LEN.true) c.append.ensures
 
 pub returns : goal.returns
-returns c = appended_as (long_name c.write_full_name-length.ensures refl c.args.hash.now c.if-length-le-MAX_CHUNK_NAME_LEN.false) c.write_shortened.ensures
+returns c = appended_as (long_name c.write_full_name-length.ensures refl c.args.hash.now (omega arith)) c.write_shortened.ensures

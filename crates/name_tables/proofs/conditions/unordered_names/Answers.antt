@@ -1,6 +1,7 @@
 -- `name_tables::conditions::unordered_names` meets its contract. The invariant: the test of the names from k on gives what the whole test gives.
 use Prim.Native.Nat.{◌+◌}
-use mathlib.Core.Path.{refl, sym, ap₂, ◌∙◌}
+use mathlib.Core.Bool.{true}
+use mathlib.Core.Path.{◌≡◌, refl, sym, ap₂, ◌∙◌}
 use native.Mathlib.Omega.{arith}
 use Rattle.ids.specs.Order.{before}
 use Rattle.name_tables.proofs.NamesFrom.{name_in_table, all_ordered, one_pair}
@@ -30,7 +31,8 @@ pub loop-k-preserved : goal.loop-k-preserved
 loop-k-preserved c =
     let a = c.args in
     let s = c.loop-k in
-    let good = ap₂ before (sym c.name_at-name.ensures) (sym c.name_at.ensures) ∙ sym c.id_before.ensures ∙ c.if-not-id_before.false in
+    let told : c.id_before.result ≡ true = cc in
+    let good = ap₂ before (sym c.name_at-name.ensures) (sym c.name_at.ensures) ∙ sym c.id_before.ensures ∙ told in
     (omega arith, sym (one_pair a.count a.bytes.now a.offsets.now _ s.k c.loop-k-test.true good) ∙ s.invariant.1)
 
 pub returns : goal.returns
