@@ -11,8 +11,8 @@ slice_bounds-append-end c =
     let full = c.write_full_name-length in
     sym (length-take-le full.result full.new.area (mid_within (omega arith) full.ensures))
 
-pub returns-then-length-le-MAX_CHUNK_NAME_LEN : goal.returns-then-length-le-MAX_CHUNK_NAME_LEN
-returns-then-length-le-MAX_CHUNK_NAME_LEN c = appended_as (short_name c.write_full_name-length.ensures refl c.args.hash.now c.if-length-le-MAX_CHUNK_NAME_LEN.true) c.append.ensures
-
 pub returns : goal.returns
 returns c = appended_as (long_name c.write_full_name-length.ensures refl c.args.hash.now (omega arith)) c.write_shortened.ensures
+
+pub returns-then-length-le-MAX_CHUNK_NAME_LEN : goal.returns-then-length-le-MAX_CHUNK_NAME_LEN
+returns-then-length-le-MAX_CHUNK_NAME_LEN c = appended_as (short_name c.write_full_name-length.ensures refl c.args.hash.now c.if-length-le-MAX_CHUNK_NAME_LEN.true) c.append.ensures
