@@ -16,28 +16,15 @@ pub fn id_too_long(id: &[u8]) -> bool
 pub fn bad_offsets(longest: usize, end: usize, offsets: &[u32]) -> bool
     ensures { result ≡ bad_offsets longest end offsets.now }
 {
-    let mut k = 0;
-    while k < offsets.len() {
-        let a = offsets[k] as usize;
-        if end < a {
-            return true;
-        }
-        k = k + 1;
-        if k < offsets.len() {
-            if bad_pair(longest, a, offsets[k] as usize) {
-                return true;
-            }
-        }
+    if offsets.iter().any(|offset| end < *offset as usize) {
+        return true;
     }
-    false
+    offsets.windows(2).any(|pair| bad_pair(longest, pair[0] as usize, pair[1] as usize))
 }
 
 // Two offsets that follow each other fall, or hold an id that is too long.
 fn bad_pair(longest: usize, a: usize, b: usize) -> bool
     ensures { result ≡ (ltb b a || ltb longest (b - a)) }
 {
-    if b < a {
-        return true;
-    }
-    longest < b - a
+    b < a || longest < b - a
 }
