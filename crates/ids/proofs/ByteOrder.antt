@@ -7,6 +7,11 @@ use mathlib.Core.Path.{◌≡◌, refl, sym, ap₂, ◌∙◌}
 use native.Mathlib.Numerals.{add-one}
 use native.Mathlib.Omega.{arith}
 use borrow.Author.Tests.{lt-ltb, le-ltb, eq-eqb, ne_eqb, ltb-true, ltb-false}
+use Rattle.std.proofs.lemmas.Grind.{common_steps}
+use Rattle.std.proofs.lemmas.Bool.Decides.{nat_tests}
+use Rattle.std.proofs.Common.{Some}
+use Rattle.std.specs.Ordering.{nat_cmp, partial_lt}
+use Rattle.std.specs.Cmp.Lexicographic.{slice_partial_cmp}
 use lib.Dec.{ltb}
 use lib.ListN.{length, get_or, drop, drop_of_length-le}
 use lib.Seq.{drop-cons}
@@ -108,6 +113,15 @@ pub record StrictTotalOrder (A : Type 0) (lower : A → A → Bool) : Type 0 whe
 
 pub byte_order : StrictTotalOrder (List ℕ) before
 byte_order = record { irrefl = before_irrefl; trans = before_trans; asym = before_asym; total = before_total }
+
+-- ---- what the comparison of two slices answers
+
+pub compared : (l r : List ℕ) → partial_lt (slice_partial_cmp (λ x y. Some (nat_cmp x y))) l r ≡ before l r
+unfolding before
+compared [] [] = refl
+compared [] (b ∷ r) = refl
+compared (a ∷ l) [] = refl
+compared (a ∷ l) (b ∷ r) = grind (arith, common_steps, nat_tests, compared l r)
 
 -- ---- two ids from byte i on, as a loop over both meets them
 

@@ -16,10 +16,18 @@ pub fn id_too_long(id: &[u8]) -> bool
 pub fn bad_offsets(longest: usize, end: usize, offsets: &[u32]) -> bool
     ensures { result ≡ bad_offsets longest end offsets.now }
 {
-    if offsets.iter().any(|offset| end < *offset as usize) {
-        return true;
+    for (k, offset) in offsets.iter().enumerate() {
+        let a = *offset as usize;
+        if end < a {
+            return true;
+        }
+        if let Some(next) = offsets.get(k + 1) {
+            if bad_pair(longest, a, *next as usize) {
+                return true;
+            }
+        }
     }
-    offsets.windows(2).any(|pair| bad_pair(longest, pair[0] as usize, pair[1] as usize))
+    false
 }
 
 // Two offsets that follow each other fall, or hold an id that is too long.
