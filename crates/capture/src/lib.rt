@@ -10,7 +10,6 @@ ghost use Rattle.capture.specs.Start.{StartReady};
 ghost use Rattle.capture.specs.Call.{bad_counts, bad_lengths, input_tests, CaptureCall};
 
 use index::ModuleIdx;
-use lists::fill::{clear_bytes, clear_words};
 
 #[derive(Clone, Copy)]
 pub enum CaptureAnswer {
@@ -76,7 +75,7 @@ fn capture_from(
       next = next.now;
     })) (length flags.now) marks.new }
 {
-    clear_bytes(marks);
+    marks.fill(0);
     if !flags::is_eligible_at(flags, from) {
         return;
     }
@@ -179,6 +178,6 @@ pub fn add_module_and_dependencies_to_group_recursively(
         &mut marks[..n],
         scratch,
     );
-    clear_words(scratch);
+    scratch.fill(0);
     CaptureAnswer::Done
 }

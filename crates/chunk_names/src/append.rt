@@ -18,6 +18,6 @@ pub fn append(area: &mut [u8], at: usize, part: &[u8]) -> usize
 {
     let count = least(area.len() - at, part.len());
     let end = at + count;
-    lists::copy::copy_bytes(&part[..count], &mut area[at..end]);
+    area[at..end].copy_from_slice(&part[..count]);
     end
 }

@@ -6,7 +6,6 @@ ghost use Rattle.names.specs.Turn.{NamesRoom};
 ghost use Rattle.groups.specs.Turn.{GroupTurning, GroupTurned, GroupsTurning, GroupsTurned};
 
 use index::ChunkIdx;
-use lists::copy::copy_bytes;
 use matching::matched::match_group;
 use names::convert_names;
 use options::Settings;
@@ -208,7 +207,7 @@ pub fn convert_groups_to_chunks(
     let mut place = [0u32; 4096];
     store_places(order, &mut place);
     let mut closed = [0u8; 4096];
-    copy_bytes(flags, &mut closed[..n]);
+    closed[..n].copy_from_slice(flags);
     let mut marks = [0u8; 4096];
     let mut followed = [0u8; 65536];
     let mut set = [0u32; 4096];

@@ -8,7 +8,6 @@ pub mod tables;
 ghost use Rattle.std.specs.Prelude.{◌≡◌, ℕ};
 ghost use Rattle.merge.specs.Call.{written, Ready, MergeCall};
 
-use lists::copy::copy_numbers;
 
 #[derive(Clone, Copy)]
 pub enum MergeAnswer {
@@ -44,8 +43,8 @@ fn merge_into(
     }) }
 {
     let words = 4 * k;
-    copy_numbers(sizes, &mut final_sizes[..k]);
-    copy_numbers(bits, &mut final_bits[..words]);
+    final_sizes[..k].copy_from_slice(sizes);
+    final_bits[..words].copy_from_slice(bits);
     engine::merge_in_place(
         &mut final_numbers[..k],
         &mut final_sizes[..k],

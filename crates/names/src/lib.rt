@@ -14,7 +14,6 @@ use emitting::emit::Head;
 use entries_aware::convert_subgroups;
 use index::ChunkIdx;
 use items::convert::{Limits, convert_item_to_chunks};
-use lists::fill::clear_bytes;
 use matching::matched::run_end;
 use options::Settings;
 
@@ -198,7 +197,7 @@ pub fn convert_names(
         × (length scratch.new ≡ length scratch.old) × (followed.new ≡ unfollowed)
         × Closed flags.now first.now dependency.now next.now closed.new chunk_of.new }
 {
-    clear_bytes(marks);
+    marks.fill(0);
     let closing = can_close(settings);
     let mut made = 0;
     let mut from = 0;

@@ -9,7 +9,6 @@ use exec_order::listed::keep_eligible;
 use groups::convert::convert_groups_to_chunks;
 use index::ChunkIdx;
 use linking::link;
-use lists::fill::clear_words;
 use options::Settings;
 use turns::into_priority_sorted_groups;
 
@@ -92,7 +91,7 @@ fn make_chunks(
 {
     let mut turns = [0u32; 64];
     into_priority_sorted_groups(settings, &mut turns[..g]);
-    clear_words(&mut chunk_of[..n]);
+    chunk_of[..n].fill(0);
     convert_groups_to_chunks(
         settings,
         &turns[..g],
@@ -145,10 +144,10 @@ fn finish(
         }) scratch.old scratch.new }
 {
     let end = at + made;
-    clear_words(&mut next_of[..n]);
-    clear_words(&mut first_of[at..end]);
+    next_of[..n].fill(0);
+    first_of[at..end].fill(0);
     link(order, chunk_of, on_entry, at, next_of, first_of);
-    clear_words(scratch);
+    scratch.fill(0);
 }
 
 // Makes the chunks of a build and writes every area. The modules are told in execution order and by their ranks among the ids; who is assigned

@@ -79,7 +79,7 @@ pub shape_of-marks : goal.shape_of-marks
 shape_of-marks c = length_front c.args.marks.now c.capture_from.new.marks c.args.n c.capture_from.auto.marks
 
 pub shape_of-scratch : goal.shape_of-scratch
-shape_of-scratch c = c.clear_words.auto.area ∙ c.capture_from.auto.queue
+shape_of-scratch c = c.fill.auto.self ∙ c.capture_from.auto.queue
 
 pub returns : goal.returns
 returns c =
@@ -107,4 +107,4 @@ returns c =
       first = c.args.first.now;
       dependency = c.args.dependency.now;
       next = c.args.next.now;
-    })) p.counts p.lengths ((record { marks = c.args.marks.now; scratch = c.args.scratch.now })) (omega arith) f.new.marks f.new.queue c.clear_words.new.area f.auto.marks f.ensures f.auto.queue c.clear_words.ensures)
+    })) p.counts p.lengths ((record { marks = c.args.marks.now; scratch = c.args.scratch.now })) (omega arith) f.new.marks f.new.queue c.fill.new.self f.auto.marks f.ensures f.auto.queue c.fill.ensures.after (λ y e. e))

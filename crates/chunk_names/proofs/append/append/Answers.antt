@@ -5,14 +5,14 @@ use lib.ListN.{length-take, length-drop}
 use Rattle.chunk_names.proofs.Appending.{appended}
 use Rattle.chunk_names.proofs.append.append.Goals as goal
 
-pub slice_bounds-copy_bytes-end : goal.slice_bounds-copy_bytes-end
-slice_bounds-copy_bytes-end c =
+pub slice_bounds-copy_from_slice-end : goal.slice_bounds-copy_from_slice-end
+slice_bounds-copy_from_slice-end c =
     let a = c.args in
     let e = c.least-count.ensures in
     sym (length-take c.least-count.result a.part.now ∙ omega arith)
 
-pub copy_bytes-requires : goal.copy_bytes-requires
-copy_bytes-requires c =
+pub copy_from_slice-requires : goal.copy_from_slice-requires
+copy_from_slice-requires c =
     let a = c.args in
     let e = c.least-count.ensures in
     length-take c.least-count.result a.part.now ∙ simp (length-take, length-drop) (omega arith)
@@ -20,4 +20,4 @@ copy_bytes-requires c =
 pub returns : goal.returns
 returns c =
     let a = c.args in
-    appended a.area.now a.part.now a.at c.least-count.result c.least-count.ensures c.copy_bytes.new.to c.copy_bytes.ensures
+    appended a.area.now a.part.now a.at c.least-count.result c.least-count.ensures c.copy_from_slice.new.self c.copy_from_slice.ensures.after

@@ -34,12 +34,12 @@ slice_bounds-closed-end c =
       given_few c.requires.groups_turning,
     )
 
-pub slice_bounds-copy_bytes-end : goal.slice_bounds-copy_bytes-end
-slice_bounds-copy_bytes-end c =
+pub slice_bounds-copy_from_slice-end : goal.slice_bounds-copy_from_slice-end
+slice_bounds-copy_from_slice-end c =
     sym (zeros-front c.args.n (given_few c.requires.groups_turning))
 
-pub copy_bytes-requires : goal.copy_bytes-requires
-copy_bytes-requires c =
+pub copy_from_slice-requires : goal.copy_from_slice-requires
+copy_from_slice-requires c =
     given_flags c.requires.groups_turning ∙ sym (zeros-front c.args.n (given_few c.requires.groups_turning))
 
 pub loop-i-init : goal.loop-i-init
@@ -47,7 +47,7 @@ unfolding unfollowed
 loop-i-init c =
     let p = c.requires.groups_turning in
     let n = c.args.n in
-    let r = c.copy_bytes in
+    let r = c.copy_from_slice in
     let front = r.new.to in (
       none_turned,
       same_lengths _,
