@@ -8,7 +8,6 @@ pub mod tables;
 ghost use Rattle.std.specs.Prelude.{◌≡◌, ℕ};
 ghost use Rattle.merge.specs.Call.{written, Ready, MergeCall};
 
-
 #[derive(Clone, Copy)]
 pub enum MergeAnswer {
     Refused(u32),

@@ -107,4 +107,4 @@ returns c =
       first = c.args.first.now;
       dependency = c.args.dependency.now;
       next = c.args.next.now;
-    })) p.counts p.lengths ((record { marks = c.args.marks.now; scratch = c.args.scratch.now })) (omega arith) f.new.marks f.new.queue c.fill.new.self f.auto.marks f.ensures f.auto.queue c.fill.ensures.after (λ y e. e))
+    })) p.counts p.lengths ((record { marks = c.args.marks.now; scratch = c.args.scratch.now })) (omega arith) f.new.marks f.new.queue c.fill.new.self f.auto.marks f.ensures f.auto.queue (c.fill.ensures.after (λ y e. e)))

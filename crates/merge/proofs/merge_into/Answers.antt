@@ -1,19 +1,7 @@
 -- The first entries of the areas are the tables, copied; the merge in place is done there.
-use mathlib.Core.Path.{sym, ◌∙◌}
-use Rattle.merge.proofs.Areas.{numbers_part, sizes_part, bits_part, sizes_part₂, bits_part₂, mergeable, merged_in}
+use mathlib.Core.Path.{sym}
+use Rattle.merge.proofs.Areas.{numbers_part, sizes_part₂, bits_part₂, mergeable, merged_in}
 use Rattle.merge.proofs.merge_into.Goals as goal
-
-pub slice_bounds-copy_from_slice-end-2 : goal.slice_bounds-copy_from_slice-end-2
-slice_bounds-copy_from_slice-end-2 c = sym (sizes_part c.args.k c.args.sizes.now c.args.bits.now ((record { numbers = c.args.final_numbers.now; sizes = c.args.final_sizes.now; bits = c.args.final_bits.now })) c.requires)
-
-pub copy_from_slice-requires : goal.copy_from_slice-requires
-copy_from_slice-requires c = c.requires.sizes_fit ∙ sym (sizes_part c.args.k c.args.sizes.now c.args.bits.now ((record { numbers = c.args.final_numbers.now; sizes = c.args.final_sizes.now; bits = c.args.final_bits.now })) c.requires)
-
-pub slice_bounds-copy_from_slice-end-4 : goal.slice_bounds-copy_from_slice-end-4
-slice_bounds-copy_from_slice-end-4 c = sym (bits_part c.args.k c.args.sizes.now c.args.bits.now ((record { numbers = c.args.final_numbers.now; sizes = c.args.final_sizes.now; bits = c.args.final_bits.now })) c.requires)
-
-pub copy_from_slice-requires-2 : goal.copy_from_slice-requires-2
-copy_from_slice-requires-2 c = c.requires.bits_fit ∙ sym (bits_part c.args.k c.args.sizes.now c.args.bits.now ((record { numbers = c.args.final_numbers.now; sizes = c.args.final_sizes.now; bits = c.args.final_bits.now })) c.requires)
 
 pub slice_bounds-merge_in_place-end-2 : goal.slice_bounds-merge_in_place-end-2
 slice_bounds-merge_in_place-end-2 c = sym (numbers_part c.args.k c.args.sizes.now c.args.bits.now ((record { numbers = c.args.final_numbers.now; sizes = c.args.final_sizes.now; bits = c.args.final_bits.now })) c.requires)

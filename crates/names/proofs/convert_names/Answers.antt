@@ -18,7 +18,7 @@ pub loop-from-init : goal.loop-from-init
 loop-from-init c =
     let room = c.requires.names_room.0 in (
       names_start,
-      c.fill.ensures.after (λ y e. e) ∙ ap (λ (k : ℕ). replicate k 0) (room.mark_bytes ∙ sym room.modules),
+      (c.fill.ensures.after (λ y e. e)) ∙ ap (λ (k : ℕ). replicate k 0) (room.mark_bytes ∙ sym room.modules),
       refl,
       refl,
       room.clear,

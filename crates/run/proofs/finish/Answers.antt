@@ -10,10 +10,6 @@ use Rattle.run.specs.Finished.{unlinked}
 use Rattle.run.proofs.Zeros.{unlinked_is}
 use Rattle.run.proofs.finish.Goals as goal
 
-pub slice_bounds-fill-end-2 : goal.slice_bounds-fill-end-2
-slice_bounds-fill-end-2 c =
-    sym (length-take-le c.args.n c.args.next_of.now c.requires.modules)
-
 pub link-requires : goal.link-requires
 link-requires c =
     let emptied : unlinked c.args.n c.args.at c.args.made ((record { next_of = c.args.next_of.now; first_of = c.args.first_of.now }))
@@ -24,7 +20,7 @@ link-requires c =
     } =
     let first = c.fill in
     unlinked_is c.args.n c.args.at c.args.made ((record { next_of = c.args.next_of.now; first_of = c.args.first_of.now })) first.new.area c.fill-2.new.self c.requires.modules c.requires.records
-    first.ensures c.fill-2.ensures.after (λ y e. e) in
+    (first.ensures.after (λ y e. e)) (c.fill-2.ensures.after (λ y e. e)) in
     subst (Linkable c.args.order.now c.args.chunk_of.now c.args.on_entry c.args.at)
     (emptied)
     c.requires.linkable
@@ -39,9 +35,9 @@ returns c =
     } =
     let first = c.fill in
     unlinked_is c.args.n c.args.at c.args.made ((record { next_of = c.args.next_of.now; first_of = c.args.first_of.now })) first.new.area c.fill-2.new.self c.requires.modules c.requires.records
-    first.ensures c.fill-2.ensures.after (λ y e. e) in
+    (first.ensures.after (λ y e. e)) (c.fill-2.ensures.after (λ y e. e)) in
     record {
       chains = c.link.ensures ∙ ap (linked c.args.chunk_of.now c.args.on_entry c.args.at c.args.order.now)
           (sym (emptied));
-      cleared = c.fill-3.ensures.after (λ y e. e);
+      cleared = (c.fill-3.ensures.after (λ y e. e));
     }
