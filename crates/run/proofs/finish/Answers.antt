@@ -19,7 +19,7 @@ link-requires c =
           put_mid c.args.at (c.args.at + c.args.made - c.args.at) c.args.first_of.now c.fill-2.new.self;
     } =
     let first = c.fill in
-    unlinked_is c.args.n c.args.at c.args.made ((record { next_of = c.args.next_of.now; first_of = c.args.first_of.now })) first.new.area c.fill-2.new.self c.requires.modules c.requires.records
+    unlinked_is c.args.n c.args.at c.args.made ((record { next_of = c.args.next_of.now; first_of = c.args.first_of.now })) first.new.self c.fill-2.new.self c.requires.modules c.requires.records
     (first.ensures.after (λ y e. e)) (c.fill-2.ensures.after (λ y e. e)) in
     subst (Linkable c.args.order.now c.args.chunk_of.now c.args.on_entry c.args.at)
     (emptied)
@@ -34,7 +34,7 @@ returns c =
           put_mid c.args.at (c.args.at + c.args.made - c.args.at) c.args.first_of.now c.fill-2.new.self;
     } =
     let first = c.fill in
-    unlinked_is c.args.n c.args.at c.args.made ((record { next_of = c.args.next_of.now; first_of = c.args.first_of.now })) first.new.area c.fill-2.new.self c.requires.modules c.requires.records
+    unlinked_is c.args.n c.args.at c.args.made ((record { next_of = c.args.next_of.now; first_of = c.args.first_of.now })) first.new.self c.fill-2.new.self c.requires.modules c.requires.records
     (first.ensures.after (λ y e. e)) (c.fill-2.ensures.after (λ y e. e)) in
     record {
       chains = c.link.ensures ∙ ap (linked c.args.chunk_of.now c.args.on_entry c.args.at c.args.order.now)

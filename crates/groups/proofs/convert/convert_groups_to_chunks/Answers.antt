@@ -40,7 +40,7 @@ loop-i-init c =
     let p = c.requires.groups_turning in
     let n = c.args.n in
     let r = c.copy_from_slice in
-    let front = r.new.to in (
+    let front = r.new.self in (
       none_turned,
       same_lengths _,
       refl,
@@ -48,8 +48,8 @@ loop-i-init c =
       length-replicate {A = ℕ} 4096 0,
       length-replicate {A = ℕ} 4096 0,
       refl,
-      length_front (replicate 4096 0) front n r.auto.to ∙ length-replicate {A = ℕ} 4096 0,
-      closed_as (take_at front (drop n (replicate 4096 0)) n (ap length r.ensures ∙ given_flags p) ∙ r.ensures)
+      length_front (replicate 4096 0) front n r.auto.self ∙ length-replicate {A = ℕ} 4096 0,
+      closed_as (take_at front (drop n (replicate 4096 0)) n (ap length r.ensures.after ∙ given_flags p) ∙ r.ensures.after)
           (closed_none c.args.flags.now c.args.first.now c.args.dependency.now c.args.next.now c.args.chunk_of.now),
     )
 
