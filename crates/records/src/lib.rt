@@ -67,8 +67,8 @@ fn bad_chain(first: &[u32], next: &[u32], n: usize, d: usize, known: &mut [u8]) 
 {
     known[0] = 1;
     let mut bad = false;
-    'modules: for start in &first[..n] {
-        let start = *start as usize;
+    'modules: for from in &first[..n] {
+        let start = *from as usize;
         let mut r = start;
         let mut left = d;
         while known[r] == 0 {
