@@ -12,12 +12,12 @@ pub loop-m-init : goal.loop-m-init
 loop-m-init c =
     all_forget_begins c.args.first.now c.args.next.now c.args.list.now _ c.args.followed.now c.requires.marks
 
-pub offset_bounds-first : goal.offset_bounds-first
-offset_bounds-first c =
+pub offset_bounds-first-m : goal.offset_bounds-first-m
+offset_bounds-first-m c =
     omega (arith, c.requires.list_in c.loop-m.m-index c.loop-m-test.true, c.well_formed)
 
-pub bounds-first : goal.bounds-first
-bounds-first c = c.requires.list_in c.loop-m.m-index c.loop-m-test.true
+pub bounds-first-m : goal.bounds-first-m
+bounds-first-m c = c.requires.list_in c.loop-m.m-index c.loop-m-test.true
 
 pub overflow_cast-first : goal.overflow_cast-first
 overflow_cast-first c = Fits-32_64 (c.type_inv.first _)
@@ -27,7 +27,7 @@ forget_chain-requires c =
     let a = c.args in
     let i = c.loop-m.m-index in
     let h = c.loop-m-test.true in
-    chain_ready a.first.now a.next.now a.list.now _ c.requires.next_in i c.loop-m.followed c.loop-m.m-indexnvariant h c.requires.within
+    chain_ready a.first.now a.next.now a.list.now _ c.requires.next_in i c.loop-m.followed c.loop-m.invariant h c.requires.within
     (c.requires.first_in i h) (c.requires.ends i h)
 
 pub loop-m-preserved : goal.loop-m-preserved
@@ -35,11 +35,11 @@ loop-m-preserved c =
     let a = c.args in
     let i = c.loop-m.m-index in
     let h = c.loop-m-test.true in
-    all_forget_turns a.first.now a.next.now a.list.now _ c.requires.next_in i c.loop-m.followed c.loop-m.m-indexnvariant h
+    all_forget_turns a.first.now a.next.now a.list.now _ c.requires.next_in i c.loop-m.followed c.loop-m.invariant h
     (c.requires.first_in i h) (c.requires.ends i h) c.forget_chain.ensures
 
 pub shape_of-followed : goal.shape_of-followed
-shape_of-followed c = c.loop-m.m-indexnvariant.bytes ∙ sym c.requires.marks.bytes
+shape_of-followed c = c.loop-m.invariant.bytes ∙ sym c.requires.marks.bytes
 
 pub returns : goal.returns
 returns c =
