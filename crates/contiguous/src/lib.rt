@@ -7,9 +7,9 @@ ghost use Rattle.contiguous.specs.Jumps.{is_jump, jumps_of, worth_laying};
 
 // Where a chain was laid: the record that it begins with, and the first record behind it.
 #[derive(Clone, Copy)]
-pub struct LaidChain {
-    pub first: usize,
-    pub end: usize,
+struct LaidChain {
+    first: usize,
+    end: usize,
 }
 
 // Lays the records of a chain from record `at` on, in the first `room` words of two tables. Each is followed by the one laid before it, so the new

@@ -10,6 +10,7 @@ use crate::walk::visit;
 use index::ModuleIdx;
 
 // None of four chains has come to its end.
+#[tactic(auto, unfolding(crate::specs::Chains::go_on))]
 fn go_on(a: usize, b: usize, c: usize, d: usize) -> bool
     ensures { result ≡ go_on (a ∷ b ∷ c ∷ d ∷ []) }
 {

@@ -1,19 +1,16 @@
--- `contiguous::jumps` meets its contract. The loop's invariant: how many of the records from 1 to r are followed by another than their neighbour.
-use Prim.Native.Nat.{ℕ, suc, ◌≤◌, ◌-◌}
+-- `contiguous::jumps` meets its contract. The loop's invariant: how many of the records passed are followed by another than their neighbour.
+use Prim.Native.Nat.{ℕ, suc, ◌≤◌}
 use mathlib.Core.Bool.{Bool}
 use mathlib.Core.List.{List}
 use mathlib.Core.Path.{◌≡◌}
-use lib.ListN.{get_or}
+use lib.ListN.{length, get_or}
 use Rattle.lists.specs.Below.{count_below}
 use Rattle.contiguous.specs.Jumps.{is_jump}
 use Rattle.contiguous.proofs.jumps.Given as goal
 
 -- whether record k + 1 is
-abbrev jumpAt : List ℕ → ℕ → Bool
+abbrev pub jumpAt : List ℕ → ℕ → Bool
 jumpAt next k = is_jump (suc k) (get_or next (suc k) 0)
 
 abbrev pub invariant-loop-r : goal.invariant-loop-r
-invariant-loop-r l = (l.r ≤ l.last) × (l.count ≤ l.r) × (l.count ≡ count_below (jumpAt l.next) l.r)
-
-abbrev pub decreases-loop-r : goal.decreases-loop-r
-decreases-loop-r l = l.last - l.r
+invariant-loop-r l = (l.count ≤ length l.yielded) × (l.count ≡ count_below (jumpAt l.next) (length l.yielded))

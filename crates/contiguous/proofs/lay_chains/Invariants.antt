@@ -9,5 +9,3 @@ abbrev pub invariant-loop-m : goal.invariant-loop-m
 invariant-loop-m l =
     LayingAll l.first l.dependency l.next (length l.first) (length l.next - 1) l.room l.initial.to_first l.initial.to_dependency l.initial.to_next l.m l.at l.to_first l.to_dependency l.to_next
 
-abbrev pub decreases-loop-m : goal.decreases-loop-m
-decreases-loop-m l = length l.first - l.m
