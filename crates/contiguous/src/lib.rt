@@ -62,9 +62,7 @@ pub fn lay_chains(
     let mut at = 1;
     for (m, from) in first.iter().enumerate() {
         let from = *from as usize;
-        let Some(laid) = lay_chain(
-            dependency, next, to_dependency, to_next, from, at, room,
-        ) else {
+        let Some(laid) = lay_chain(dependency, next, to_dependency, to_next, from, at, room) else {
             return 0;
         };
         to_first[m] = laid.first as u32;
@@ -87,8 +85,8 @@ fn jumps(next: &[u32]) -> usize
     ensures { result ≡ jumps_of next.now (length next.now - 1) }
 {
     let mut count = 0;
-    for (r, after) in next.iter().enumerate().skip(1) {
-        count += jump(r as u32, *after);
+    for (i, after) in next[1..].iter().enumerate() {
+        count += jump(i as u32 + 1, *after);
     }
     count
 }

@@ -3,7 +3,7 @@ use Prim.Native.Nat.{ℕ, suc, ◌≤◌}
 use mathlib.Core.Bool.{Bool}
 use mathlib.Core.List.{List}
 use mathlib.Core.Path.{◌≡◌}
-use lib.ListN.{length, get_or}
+use lib.ListN.{get_or}
 use Rattle.lists.specs.Below.{count_below}
 use Rattle.contiguous.specs.Jumps.{is_jump}
 use Rattle.contiguous.proofs.jumps.Given as goal
@@ -12,5 +12,5 @@ use Rattle.contiguous.proofs.jumps.Given as goal
 abbrev pub jumpAt : List ℕ → ℕ → Bool
 jumpAt next k = is_jump (suc k) (get_or next (suc k) 0)
 
-abbrev pub invariant-loop-r : goal.invariant-loop-r
-invariant-loop-r l = (l.count ≤ length l.yielded) × (l.count ≡ count_below (jumpAt l.next) (length l.yielded))
+abbrev pub invariant-loop-i : goal.invariant-loop-i
+invariant-loop-i l = (l.count ≤ l.i) × (l.count ≡ count_below (jumpAt l.next) l.i)
