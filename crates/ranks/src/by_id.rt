@@ -23,12 +23,10 @@ pub fn shares_id(bytes: &[u8], offsets: &[u32], list: &[u32]) -> bool
     requires { Named bytes.now offsets.now list.now }
     ensures { result ≡ neighbours_tie bytes.now offsets.now list.now }
 {
-    let mut i = 0;
-    while i + 1 < list.len() {
-        if tied_at(bytes, offsets, list, i) {
+    for i in 1..list.len() {
+        if tied_at(bytes, offsets, list, i - 1) {
             return true;
         }
-        i = i + 1;
     }
     false
 }
@@ -38,10 +36,8 @@ pub fn fill_rank(list: &[u32], rank: &mut [u32])
     requires { HasRanks list.now rank.old }
     ensures { Ranks list.now rank.old rank.new }
 {
-    let mut i = 0;
-    while i < list.len() {
-        rank[list[i] as usize] = i as u32;
-        i = i + 1;
+    for (i, m) in list.iter().enumerate() {
+        rank[*m as usize] = i as u32;
     }
 }
 

@@ -15,10 +15,8 @@ fn bad_first(first: &[u32], n: usize, d: usize) -> bool
 {
     let last = d as u32;
     let mut bad = false;
-    let mut m = 0;
-    while m < n {
-        bad = (last < first[m]) | bad;
-        m = m + 1;
+    for record in &first[..n] {
+        bad |= last < *record;
     }
     bad
 }
@@ -31,10 +29,8 @@ fn bad_record(dependency: &[u32], next: &[u32], n: usize, d: usize) -> bool
     let last = d as u32;
     let modules = n as u32;
     let mut bad = false;
-    let mut k = 0;
-    while k < d {
-        bad = (last < next[k + 1]) | (modules <= dependency[k + 1]) | bad;
-        k = k + 1;
+    for r in 1..d + 1 {
+        bad |= (last < next[r]) | (modules <= dependency[r]);
     }
     bad
 }
@@ -45,11 +41,8 @@ fn all_ascend(next: &[u32], d: usize) -> bool
     ensures { result ≡ all_ascend next.now d }
 {
     let mut all = true;
-    let mut r = 0;
-    while r < d {
-        r = r + 1;
-        let after = next[r];
-        all = ((after == 0) | ((r as u32) < after)) & all;
+    for r in 1..d + 1 {
+        all &= (next[r] == 0) | ((r as u32) < next[r]);
     }
     all
 }
@@ -74,9 +67,8 @@ fn bad_chain(first: &[u32], next: &[u32], n: usize, d: usize, known: &mut [u8]) 
 {
     known[0] = 1;
     let mut bad = false;
-    let mut m = 0;
-    'modules: while m < n {
-        let start = first[m] as usize;
+    'modules: for from in &first[..n] {
+        let start = *from as usize;
         let mut r = start;
         let mut left = d;
         while known[r] == 0 {
@@ -84,11 +76,10 @@ fn bad_chain(first: &[u32], next: &[u32], n: usize, d: usize, known: &mut [u8]) 
                 bad = true;
                 break 'modules;
             }
-            left = left - 1;
+            left -= 1;
             r = next[r] as usize;
         }
         know_chain(next, known, d, start);
-        m = m + 1;
     }
     bad
 }
@@ -111,14 +102,7 @@ pub fn bad_records(first: &[u32], dependency: &[u32], next: &[u32], n: usize, d:
     requires { RecordTables first.now dependency.now next.now n d }
     ensures { result ≡ bad_records first.now dependency.now next.now n d }
 {
-    if bad_first(first, n, d) {
-        return true;
-    }
-    if bad_record(dependency, next, n, d) {
-        return true;
-    }
-    if all_ascend(next, d) {
-        return false;
-    }
-    any_bad_chain(first, next, n, d)
+    bad_first(first, n, d)
+        || bad_record(dependency, next, n, d)
+        || (!all_ascend(next, d) && any_bad_chain(first, next, n, d))
 }

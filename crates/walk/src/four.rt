@@ -10,19 +10,11 @@ use crate::walk::visit;
 use index::ModuleIdx;
 
 // None of four chains has come to its end.
+#[tactic(auto, unfolding(crate::specs::Chains::go_on))]
 fn go_on(a: usize, b: usize, c: usize, d: usize) -> bool
     ensures { result ≡ go_on (a ∷ b ∷ c ∷ d ∷ []) }
 {
-    if a == 0 {
-        return false;
-    }
-    if b == 0 {
-        return false;
-    }
-    if c == 0 {
-        return false;
-    }
-    d != 0
+    a != 0 && b != 0 && c != 0 && d != 0
 }
 
 // Visits the modules that two records name.
@@ -103,7 +95,7 @@ fn follow_four(
         b = next[b] as usize;
         c = next[c] as usize;
         d = next[d] as usize;
-        count = count + 4;
+        count += 4;
     }
     let p = follow_two(flags, dependency, next, marks, queue, found, count, a, b);
     follow_two(flags, dependency, next, marks, queue, p.found, p.gone, c, d)

@@ -48,7 +48,7 @@ pub fn follow_plain(
     while r != 0 {
         found = visit(flags, marks, queue, found, ModuleIdx(dependency[r]));
         r = next[r] as usize;
-        count = count + 1;
+        count += 1;
     }
     Passed { found, gone: count }
 }
@@ -80,6 +80,7 @@ pub fn walk_plain(
     let mut found = tail;
     let mut gone = 0;
     let mut head = 0;
+    // No `for`: the list grows while it is read.
     while head < found {
         if next.len() <= gone {
             return Part { head, found };
@@ -90,14 +91,14 @@ pub fn walk_plain(
             );
             found = passed.found;
             gone = passed.gone;
-            head = head + 4;
+            head += 4;
             continue;
         }
         let from = first_at(first, queue, head);
         let passed = follow_plain(flags, dependency, next, marks, queue, found, gone, from);
         found = passed.found;
         gone = passed.gone;
-        head = head + 1;
+        head += 1;
     }
     Part { head, found }
 }

@@ -89,12 +89,13 @@ fn walk_marked(
     let mut found = tail;
     let mut head = start;
     followed[0] = 1;
+    // No `for`: the list grows while it is read.
     while head < found {
         let of = ModuleIdx(queue[head]);
         found = follow(
             flags, first, dependency, next, marks, queue, followed, found, of,
         );
-        head = head + 1;
+        head += 1;
     }
     forget_all(first, next, &queue[start..found], followed);
     found
