@@ -1,5 +1,5 @@
 -- `matching::matched::run_end` meets its contract: what is passed has the key of the first.
-use Rattle.std.proofs.Common.{◌≡◌, ℕ, ◌+◌, ◌-◌, ◌<◌, ◌≤◌, List, length, get_or, take, drop, sym, ap, ◌∙◌, arith, ⊎_elim, eq-or-lt_of_le, length-drop, length-take-le, take_all}
+use Rattle.std.proofs.Common.{◌≡◌, ℕ, ◌+◌, ◌-◌, ◌≤◌, List, length, get_or, take, drop, sym, ap, ◌∙◌, arith, ⊎_elim, eq-or-lt_of_le, length-drop, length-take-le, take_all}
 use Rattle.std.proofs.lemmas.List.{get_or-drop}
 use Rattle.lists.specs.Packed.{key_of}
 use Rattle.matching.proofs.matched.run_end.Goals as goal
