@@ -61,15 +61,7 @@ fn some_left(set: &[u32], chunk_of: &[u32]) -> bool
     requires { HasEntry chunk_of.now set.now }
     ensures { result ≡ some_left chunk_of.now set.now }
 {
-    let mut i = 0;
-    while i < set.len() {
-        let m = set[i] as usize;
-        if chunk_of[m] == 0 {
-            return true;
-        }
-        i = i + 1;
-    }
-    false
+    set.iter().any(|m| chunk_of[*m as usize] == 0)
 }
 
 // Closes a set if it can be closed and is in chunks whole: its modules count as assigned. An item that was dropped leaves modules without a chunk.

@@ -214,16 +214,14 @@ pub fn convert_groups_to_chunks(
     let mut set = [0u32; 4096];
     let mut matched = [0u32; 4096];
     let mut made = 0;
-    let mut i = 0;
-    while i < turns.len() {
-        let g = turns[i] as usize;
+    for turn in turns {
+        let g = *turn as usize;
         let from = g * n;
         let to = from + n;
         let own = settings[g];
-        made = made
-            + convert_group(
+        made += convert_group(
                 own,
-                turns[i],
+                *turn,
                 &answers[from..to],
                 n,
                 flags,
@@ -254,7 +252,6 @@ pub fn convert_groups_to_chunks(
                 bits_of,
                 mark_of,
             );
-        i = i + 1;
     }
     made
 }
