@@ -61,7 +61,13 @@ fn some_left(set: &[u32], chunk_of: &[u32]) -> bool
     requires { HasEntry chunk_of.now set.now }
     ensures { result ≡ some_left chunk_of.now set.now }
 {
-    set.iter().any(|m| chunk_of[*m as usize] == 0)
+    for module in set {
+        let m = *module as usize;
+        if chunk_of[m] == 0 {
+            return true;
+        }
+    }
+    false
 }
 
 // Closes a set if it can be closed and is in chunks whole: its modules count as assigned. An item that was dropped leaves modules without a chunk.
