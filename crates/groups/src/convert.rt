@@ -214,14 +214,16 @@ pub fn convert_groups_to_chunks(
     let mut set = [0u32; 4096];
     let mut matched = [0u32; 4096];
     let mut made = 0;
-    for turn in turns {
-        let g = *turn as usize;
+    let mut i = 0;
+    while i < turns.len() {
+        let g = turns[i] as usize;
         let from = g * n;
         let to = from + n;
         let own = settings[g];
-        made += convert_group(
+        made = made
+            + convert_group(
                 own,
-                *turn,
+                turns[i],
                 &answers[from..to],
                 n,
                 flags,
@@ -252,6 +254,7 @@ pub fn convert_groups_to_chunks(
                 bits_of,
                 mark_of,
             );
+        i = i + 1;
     }
     made
 }
