@@ -61,13 +61,11 @@ fn some_left(set: &[u32], chunk_of: &[u32]) -> bool
     requires { HasEntry chunk_of.now set.now }
     ensures { result ≡ some_left chunk_of.now set.now }
 {
-    let mut i = 0;
-    while i < set.len() {
-        let m = set[i] as usize;
+    for module in set {
+        let m = *module as usize;
         if chunk_of[m] == 0 {
             return true;
         }
-        i = i + 1;
     }
     false
 }

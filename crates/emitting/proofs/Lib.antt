@@ -5,3 +5,4 @@ pub mod Turn
 pub mod Numbers
 pub mod RecordsRead
 pub mod Chunks
+pub mod Backwards

@@ -122,8 +122,7 @@ pub fn emit_parts(
         }) }
 {
     let mut end = members.len();
-    let mut j = 0;
-    while j < starts.len() {
+    for j in 0..starts.len() {
         let start = starts[j] as usize;
         let next = ChunkIdx(number.0 + j as u32);
         emit_chunk(
@@ -142,6 +141,5 @@ pub fn emit_parts(
             mark_of,
         );
         end = start;
-        j = j + 1;
     }
 }

@@ -219,8 +219,7 @@ pub fn convert_names(
             followed,
             set,
         );
-        made = made
-            + convert_set(
+        made += convert_set(
                 settings,
                 group,
                 matched[from] / 4096,

@@ -89,13 +89,13 @@ fn cut_pieces(
         let Cut::At(point) = answer else {
             let mark = mark_by(maximum, size, answer);
             end_piece(starts, piece_sizes, marks, count, start, size, mark);
-            count = count + 1;
-            top = top + 1;
+            count += 1;
+            top += 1;
             end = start;
             continue;
         };
         push_pieces(starts, piece_sizes, top, start, point);
-        top = top - 1;
+        top -= 1;
     }
     count
 }

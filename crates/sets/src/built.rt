@@ -12,10 +12,8 @@ pub fn store_starts(run: &[u32], order: &[u32], set: &mut [u32])
     requires { Placed run.now order.now × (length run.now ≡ length set.old) }
     ensures { set.new ≡ starts_of order.now run.now }
 {
-    let mut i = 0;
-    while i < run.len() {
-        set[i] = order[(run[i] % 4096) as usize];
-        i = i + 1;
+    for (i, number) in run.iter().enumerate() {
+        set[i] = order[(*number % 4096) as usize];
     }
 }
 

@@ -15,10 +15,8 @@ fn mark_starts(flags: &[u8], starts: &[u32], marks: &mut [u8], queue: &mut [u32]
         starts.now ≡ record { marks = marks.new; queue = queue.new; tail = result } }
 {
     let mut tail = 0;
-    let mut i = 0;
-    while i < starts.len() {
-        tail = visit(flags, marks, queue, tail, ModuleIdx(starts[i]));
-        i = i + 1;
+    for start in starts {
+        tail = visit(flags, marks, queue, tail, ModuleIdx(*start));
     }
     tail
 }

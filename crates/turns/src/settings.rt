@@ -68,8 +68,7 @@ pub fn all_settings(
 {
     let none = unset();
     let mut all = [none; 64];
-    let mut i = 0;
-    while i < g {
+    for i in 0..g {
         let group = group_at(
             given,
             min_size,
@@ -82,9 +81,7 @@ pub fn all_settings(
             threshold,
             i,
         );
-        let own = settings_under(global, group);
-        all[i] = own;
-        i = i + 1;
+        all[i] = settings_under(global, group);
     }
     all
 }

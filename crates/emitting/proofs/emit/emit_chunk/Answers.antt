@@ -4,9 +4,6 @@ use Rattle.bitset.specs.Rows.{with_row}
 use Rattle.emitting.proofs.Chunk.{written_chunk}
 use Rattle.emitting.proofs.emit.emit_chunk.Goals as goal
 
-pub store_row-requires : goal.store_row-requires
-store_row-requires c = c.requires.room.words
-
 pub returns : goal.returns
 returns c =
     let a = c.args in

@@ -9,12 +9,6 @@ use Rattle.oversized.proofs.neighbours.fill_similar.Goals as goal
 pub loop-i-init : goal.loop-i-init
 loop-i-init c = (omega arith, c.requires.1, λ k from h. absurd (omega arith))
 
-pub similarity_between-requires : goal.similarity_between-requires
-similarity_between-requires c =
-    let p = c.requires.0 in
-    let i = c.loop-i.i in
-    record { good = p.good; has_before = p.has_id (i - 1) (omega arith); has_after = p.has_id i (omega arith) }
-
 pub loop-i-preserved : goal.loop-i-preserved
 loop-i-preserved c =
     let l = c.loop-i in

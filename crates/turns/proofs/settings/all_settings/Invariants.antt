@@ -1,5 +1,5 @@
 -- `turns::settings::all_settings` meets its contract: one group's settings more a turn.
-use Prim.Native.Nat.{◌-◌, ◌≤◌}
+use Prim.Native.Nat.{◌≤◌}
 use mathlib.Core.Path.{◌≡◌}
 use lib.ListN.{length}
 use Rattle.options.specs.Force.{settings_under}
@@ -20,6 +20,3 @@ invariant-loop-i l =
       priority = l.priority;
       threshold = l.threshold;
     }) j))
-
-abbrev pub decreases-loop-i : goal.decreases-loop-i
-decreases-loop-i l = l.g - l.i
