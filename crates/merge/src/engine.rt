@@ -91,8 +91,7 @@ fn join_all(
     lists::fill::fill_range(there);
     fill_words(words, bits);
     fill_heads(heads, sizes, threshold);
-    let mut left = there.len();
-    while 0 < left {
+    for left in (1..=there.len()).rev() {
         if !join_next(
             numbers,
             sizes,
@@ -104,7 +103,6 @@ fn join_all(
         ) {
             return;
         }
-        left = left - 1;
     }
 }
 
