@@ -40,14 +40,7 @@ pub fn derive_entries_aware_chunk_name(
       hash = hash.now;
     }) result area.old area.new }
 {
-    conditions::table_number(
-        k,
-        e,
-        group_names,
-        group_offsets,
-        entry_names,
-        entry_offsets,
-    )?;
+    conditions::table_number(k, e, group_names, group_offsets, entry_names, entry_offsets)?;
     conditions::chunk_number(
         k,
         e,
