@@ -58,7 +58,7 @@ slice_bounds-by_order-end c = count_in _ any _ (tested c.args.on_entry c.in_ok-c
 
 pub slice_bounds-run_tested-end : goal.slice_bounds-run_tested-end
 slice_bounds-run_tested-end c =
-    sym (length-take-le c.in_ok-count.count c.test_input-count.new.by_order
+    sym (length-take-le c.in_ok-count.count c.test_input.new.by_order
     (count_in _ any _ (tested c.args.on_entry c.in_ok-count.ensures)))
 
 pub slice_bounds-rank-end : goal.slice_bounds-rank-end
@@ -66,7 +66,7 @@ slice_bounds-rank-end c = modules_in _ any _ (tested c.args.on_entry c.in_ok-cou
 
 pub slice_bounds-run_tested-end-2 : goal.slice_bounds-run_tested-end-2
 slice_bounds-run_tested-end-2 c =
-    sym (length-take-le c.args.n c.test_input-count.new.rank
+    sym (length-take-le c.args.n c.test_input.new.rank
     (modules_in _ any _ (tested c.args.on_entry c.in_ok-count.ensures)))
 
 pub run_tested-made-requires : goal.run_tested-made-requires
