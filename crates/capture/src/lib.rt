@@ -2,6 +2,7 @@
 #![tactic(auto)]
 
 ghost use Rattle.std.specs.Prelude.{◌≡◌, ◌-◌, ◌≤◌, length};
+ghost use Rattle.refusal.specs.Answers.{number_or_zero};
 ghost use Rattle.refusal.specs.Counts.{record_limit};
 ghost use Rattle.refusal.specs.Outcome.{first_number};
 ghost use Rattle.walk.specs.Reached.{Marks};
@@ -10,21 +11,13 @@ ghost use Rattle.capture.specs.Start.{StartReady};
 ghost use Rattle.capture.specs.Call.{bad_counts, bad_lengths, input_tests, CaptureCall};
 
 use index::ModuleIdx;
-
-#[derive(Clone, Copy)]
-pub enum CaptureAnswer {
-    Refused(u32),
-    Done,
-}
+use refusal::Refusal;
 
 // Refusal 1: a count above its limit.
 fn bad_counts(n: usize, d: usize) -> bool
     ensures { result ≡ bad_counts n d }
 {
-    if refusal::MODULE_LIMIT < n {
-        return true;
-    }
-    refusal::RECORD_LIMIT < d
+    refusal::MODULE_LIMIT < n || refusal::RECORD_LIMIT < d
 }
 
 // Refusal 2: a table's length is not the one that its counts imply.
@@ -39,16 +32,7 @@ fn bad_lengths(
     requires { d ≤ record_limit }
     ensures { result ≡ bad_lengths flags.now first.now dependency.now next.now n d }
 {
-    if flags.len() != n {
-        return true;
-    }
-    if first.len() != n {
-        return true;
-    }
-    if dependency.len() != d + 1 {
-        return true;
-    }
-    next.len() != d + 1
+    flags.len() != n || first.len() != n || dependency.len() != d + 1 || next.len() != d + 1
 }
 
 // Marks what a module captures: nothing if it isn't eligible, it alone with recursion off.
@@ -97,8 +81,8 @@ fn capture_from(
     );
 }
 
-// The number of the first condition on the input that applies, and 0 if none does.
-fn input_number(
+// Refuses by the first condition on the input that applies.
+fn test_input(
     n: usize,
     d: usize,
     from: ModuleIdx,
@@ -106,26 +90,26 @@ fn input_number(
     first: &[u32],
     dependency: &[u32],
     next: &[u32],
-) -> u32
-    ensures { result ≡ first_number (input_tests n d from.0
+) -> Result<(), Refusal>
+    ensures { number_or_zero result ≡ first_number (input_tests n d from.0
         flags.now first.now dependency.now next.now) }
 {
     if bad_counts(n, d) {
-        return refusal::COUNT;
+        return Err(Refusal::Count);
     }
     if bad_lengths(flags, first, dependency, next, n, d) {
-        return refusal::LENGTH;
+        return Err(Refusal::Length);
     }
     if records::bad_records(first, dependency, next, n, d) {
-        return refusal::RECORD;
+        return Err(Refusal::Record);
     }
     if flags::bad_flags(flags, n) {
-        return refusal::BIT;
+        return Err(Refusal::Bit);
     }
     if n <= from.0 as usize {
-        return refusal::NUMBER;
+        return Err(Refusal::Number);
     }
-    0
+    Ok(())
 }
 
 // The public call: marks each module that the start captures.
@@ -140,7 +124,7 @@ pub fn add_module_and_dependencies_to_group_recursively(
     next: &[u32],
     marks: &mut [u8],
     scratch: &mut [u32],
-) -> CaptureAnswer
+) -> Result<(), Refusal>
     ensures { CaptureCall (record {
       n = n;
       d = d;
@@ -158,15 +142,12 @@ pub fn add_module_and_dependencies_to_group_recursively(
       scratch = scratch.new;
     }) }
 {
-    let number = input_number(n, d, from, flags, first, dependency, next);
-    if number != 0 {
-        return CaptureAnswer::Refused(number);
-    }
+    test_input(n, d, from, flags, first, dependency, next)?;
     if marks.len() < n {
-        return CaptureAnswer::Refused(refusal::AREA);
+        return Err(Refusal::Area);
     }
     if scratch.len() < n {
-        return CaptureAnswer::Refused(refusal::SCRATCH);
+        return Err(Refusal::Scratch);
     }
     capture_from(
         from,
@@ -179,5 +160,5 @@ pub fn add_module_and_dependencies_to_group_recursively(
         scratch,
     );
     scratch.fill(0);
-    CaptureAnswer::Done
+    Ok(())
 }

@@ -3,24 +3,17 @@
 
 ghost use Rattle.grouping.specs.Call.{ChunksCall};
 ghost use Rattle.grouping.specs.Conditions.{scratch_need};
-ghost use Rattle.chunks.specs.Answer.{outcome_of};
+ghost use Rattle.refusal.specs.Answers.{outcome_of};
 
 use conditions::AreaLengths;
 use options::Options;
+use refusal::Refusal;
 use tested_run::run_tested;
-use testing::Tested;
 use testing::input::test_input;
 use testing::state::test_state;
 use turns::settings::all_settings;
 
-// The number of a condition that applies, or how many new chunks there are.
-#[derive(Clone, Copy)]
-pub enum ChunksAnswer {
-    Refused(u32),
-    Made(usize),
-}
-
-// The call. A refusal touches no lent area.
+// The call: refuses, or answers how many new chunks there are. A refusal touches no lent area.
 pub fn split(
     n: usize,
     g: usize,
@@ -59,7 +52,7 @@ pub fn split(
     bits_of: &mut [u64],
     mark_of: &mut [u8],
     scratch: &mut [u32],
-) -> ChunksAnswer
+) -> Result<usize, Refusal>
     ensures { ChunksCall scratch_need (record {
       shared = record {
         n = n;
@@ -121,7 +114,7 @@ pub fn split(
 {
     let mut by_order = [0u32; 4096];
     let mut rank = [0u32; 4096];
-    let tested = test_input(
+    let count = test_input(
         n,
         g,
         e,
@@ -151,63 +144,55 @@ pub fn split(
         answers,
         &mut by_order,
         &mut rank,
+    )?;
+    let lengths = AreaLengths {
+        chunk_of: chunk_of.len(),
+        next_of: next_of.len(),
+        first_of: first_of.len(),
+        group_of: group_of.len(),
+        name_of: name_of.len(),
+        size_of: size_of.len(),
+        bits_of: bits_of.len(),
+        mark_of: mark_of.len(),
+    };
+    test_state(answers, n, g, k, on_entry, lengths, scratch.len())?;
+    let made = run_tested(
+        n,
+        g,
+        flags,
+        sizes,
+        shares,
+        tags,
+        bits,
+        bytes,
+        offsets,
+        first,
+        dependency,
+        next,
+        options,
+        given,
+        min_size,
+        max_size,
+        min_module_size,
+        max_module_size,
+        min_share_count,
+        group_tags,
+        priority,
+        threshold,
+        answers,
+        &by_order[..count],
+        &rank[..n],
+        on_entry,
+        0,
+        chunk_of,
+        next_of,
+        first_of,
+        group_of,
+        name_of,
+        size_of,
+        bits_of,
+        mark_of,
+        scratch,
     );
-    match tested {
-        Tested::Refused(number) => ChunksAnswer::Refused(number),
-        Tested::Passed(count) => {
-            let lengths = AreaLengths {
-                chunk_of: chunk_of.len(),
-                next_of: next_of.len(),
-                first_of: first_of.len(),
-                group_of: group_of.len(),
-                name_of: name_of.len(),
-                size_of: size_of.len(),
-                bits_of: bits_of.len(),
-                mark_of: mark_of.len(),
-            };
-            let number = test_state(answers, n, g, k, on_entry, lengths, scratch.len());
-            if number != 0 {
-                return ChunksAnswer::Refused(number);
-            }
-            let made = run_tested(
-                n,
-                g,
-                flags,
-                sizes,
-                shares,
-                tags,
-                bits,
-                bytes,
-                offsets,
-                first,
-                dependency,
-                next,
-                options,
-                given,
-                min_size,
-                max_size,
-                min_module_size,
-                max_module_size,
-                min_share_count,
-                group_tags,
-                priority,
-                threshold,
-                answers,
-                &by_order[..count],
-                &rank[..n],
-                on_entry,
-                0,
-                chunk_of,
-                next_of,
-                first_of,
-                group_of,
-                name_of,
-                size_of,
-                bits_of,
-                mark_of,
-                scratch,
-            );
-            ChunksAnswer::Made(made)
-        }
-    }
+    Ok(made)
 }

@@ -1,6 +1,6 @@
 -- Filter (`passes_static_filters`).
 use Rattle.std.specs.Prelude.{ℕ, Bool, true, false, ◌&&◌, ◌||◌, List, [], ◌∷◌, leb, eqb}
-use Rattle.refusal.specs.Outcome.{Outcome, refused, accepted, Test, test, outcome}
+use Rattle.refusal.specs.Outcome.{Outcome, Test, test, outcome}
 use Rattle.whole.specs.Double.{to_f64}
 use Rattle.whole.specs.Total.{total_exceeds}
 use Rattle.limit.specs.Limits.{is_nan_limit, at_least, at_most}
@@ -10,8 +10,6 @@ use Rattle.bitset.specs.Word.{contains}
 use Rattle.filter.specs.declared.MinShareCount.{MinShareCount}
 use Rattle.filter.specs.declared.MinShareCount.TheVariants.{Absent, Given}
 use Rattle.filter.specs.declared.StaticFilter.{StaticFilter}
-use Rattle.filter.specs.declared.Filtered.{Filtered}
-use Rattle.filter.specs.declared.Filtered.TheVariants.{Refused, Passes}
 
 -- "share count at least the minimum"; an absent minimum asks nothing
 unfoldable pub shared_enough : MinShareCount → ℕ → Bool
@@ -51,8 +49,3 @@ filter_tests f size = test 6 (total_exceeds (size ∷ [])) ∷ test 8 (is_nan_li
 unfoldable pub filter_call : StaticFilter → ℕ → ℕ → ℕ → Outcome Bool
 unfolding filter_tests outcome passes
 filter_call f tags size shares = outcome (filter_tests f size) (passes f tags size shares)
-
--- the number and the value of each case of the answer
-abbrev pub outcome_of : Filtered → Outcome Bool
-outcome_of (Refused n) = refused n
-outcome_of (Passes b) = accepted b

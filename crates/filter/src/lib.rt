@@ -2,9 +2,11 @@
 #![tactic(auto)]
 
 ghost use Rattle.std.specs.Prelude.{◌≡◌, ◌≤◌, ◌^◌};
-ghost use Rattle.filter.specs.Filter.{shared_enough, passes, no_limit, no_minimum, asks_nothing, filter_call, outcome_of};
+ghost use Rattle.refusal.specs.Answers.{outcome_of};
+ghost use Rattle.filter.specs.Filter.{shared_enough, passes, no_limit, no_minimum, asks_nothing, filter_call};
 
 use limit::Limit;
+use refusal::Refusal;
 
 // The least share count that is asked for, if one is.
 #[derive(Clone, Copy)]
@@ -20,12 +22,6 @@ pub struct StaticFilter {
     pub min_module_size: Limit,
     pub max_module_size: Limit,
     pub min_share_count: MinShareCount,
-}
-
-#[derive(Clone, Copy)]
-pub enum Filtered {
-    Refused(u32),
-    Passes(bool),
 }
 
 impl MinShareCount {
@@ -96,19 +92,19 @@ pub fn passes_static_filters(
     tags: u64,
     size: u64,
     share_count: u32,
-) -> Filtered
+) -> Result<bool, Refusal>
     ensures { outcome_of result ≡ filter_call filter tags size share_count }
 {
     if whole::TOTAL_LIMIT < size {
-        return Filtered::Refused(refusal::TOTAL);
+        return Err(Refusal::Total);
     }
     let min_module_size = filter.min_module_size;
     if min_module_size.is_nan_limit() {
-        return Filtered::Refused(refusal::NAN);
+        return Err(Refusal::Nan);
     }
     let max_module_size = filter.max_module_size;
     if max_module_size.is_nan_limit() {
-        return Filtered::Refused(refusal::NAN);
+        return Err(Refusal::Nan);
     }
-    Filtered::Passes(passes_within(filter, tags, size, share_count))
+    Ok(passes_within(filter, tags, size, share_count))
 }

@@ -1,7 +1,6 @@
 // Capture for a host.
 ghost use Rattle.gentropi.specs.After.{CaptureExport};
 
-use capture::CaptureAnswer;
 use index::ModuleIdx;
 
 #[unsafe(no_mangle)]
@@ -47,7 +46,7 @@ pub extern "C" fn gentropi_capture(
         scratch,
     );
     match answer {
-        CaptureAnswer::Refused(number) => number,
-        CaptureAnswer::Done => 0,
+        Err(refusal) => refusal.number(),
+        Ok(()) => 0,
     }
 }

@@ -3,7 +3,7 @@ ghost use Rattle.std.specs.Prelude.{◌≡◌};
 ghost use Rattle.cut.specs.Call.{cut_call, chosen_of};
 ghost use Rattle.gentropi.specs.After.{why_number, CutExport};
 
-use cut::{Cut, CutAnswer};
+use cut::Cut;
 
 // What stands for each answer: there is a cut, there are fewer than two modules, or no cut is allowed.
 const FOUND: u8 = 0;
@@ -49,8 +49,8 @@ pub extern "C" fn gentropi_cut(
 {
     let answer = cut::pick_relevance_split_index(n, bytes, offsets, sizes, minimum, maximum);
     match answer {
-        CutAnswer::Refused(number) => number,
-        CutAnswer::Answered(chosen) => {
+        Err(refusal) => refusal.number(),
+        Ok(chosen) => {
             *why_none = why_none_of(chosen);
             let Cut::At(point) = chosen else {
                 return 0;

@@ -3,7 +3,7 @@ ghost use Rattle.std.specs.Prelude.{◌≡◌};
 ghost use Rattle.filter.specs.Filter.{filter_call};
 ghost use Rattle.gentropi.specs.After.{limit_given, shares_given, filter_given, FilterExport};
 
-use filter::{Filtered, MinShareCount, StaticFilter};
+use filter::{MinShareCount, StaticFilter};
 use limit::Limit;
 
 fn limit_given(given: bool, limit: f64) -> Limit
@@ -50,8 +50,8 @@ pub extern "C" fn gentropi_filter(
     };
     let answer = filter::passes_static_filters(filter, tags, size, share_count);
     match answer {
-        Filtered::Refused(number) => number,
-        Filtered::Passes(value) => {
+        Err(refusal) => refusal.number(),
+        Ok(value) => {
             *passes = value;
             0
         }

@@ -2,8 +2,6 @@
 ghost use Rattle.options.specs.Tables.{options_by};
 ghost use Rattle.gentropi.specs.After.{ChunksExport};
 
-use chunks::ChunksAnswer;
-
 #[unsafe(no_mangle)]
 pub extern "C" fn gentropi_chunks(
     n: usize,
@@ -157,8 +155,8 @@ pub extern "C" fn gentropi_chunks(
         scratch,
     );
     match answer {
-        ChunksAnswer::Refused(number) => number,
-        ChunksAnswer::Made(made) => {
+        Err(refusal) => refusal.number(),
+        Ok(made) => {
             *count = made;
             0
         }

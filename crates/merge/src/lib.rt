@@ -8,11 +8,7 @@ pub mod tables;
 ghost use Rattle.std.specs.Prelude.{◌≡◌, ℕ};
 ghost use Rattle.merge.specs.Call.{written, Ready, MergeCall};
 
-#[derive(Clone, Copy)]
-pub enum MergeAnswer {
-    Refused(u32),
-    Done,
-}
+use refusal::Refusal;
 
 // The tests have passed: the tables are copied into the areas, and merged there. Entries past k stay.
 fn merge_into(
@@ -62,7 +58,7 @@ pub fn merge_entries_aware_subgroups(
     final_numbers: &mut [u32],
     final_sizes: &mut [u64],
     final_bits: &mut [u64],
-) -> MergeAnswer
+) -> Result<(), Refusal>
     ensures { MergeCall (record {
       k = k;
       entries = entries;
@@ -80,22 +76,22 @@ pub fn merge_entries_aware_subgroups(
     }) }
 {
     if conditions::counts_exceed(k, entries) {
-        return MergeAnswer::Refused(refusal::COUNT);
+        return Err(Refusal::Count);
     }
     if conditions::lengths_differ(k, sizes.len(), bits.len()) {
-        return MergeAnswer::Refused(refusal::LENGTH);
+        return Err(Refusal::Length);
     }
     if whole::total_exceeds(sizes) {
-        return MergeAnswer::Refused(refusal::TOTAL);
+        return Err(Refusal::Total);
     }
     if limit::is_nan(threshold) {
-        return MergeAnswer::Refused(refusal::NAN);
+        return Err(Refusal::Nan);
     }
     if bitset::table::any_bit_from(bits, k, entries) {
-        return MergeAnswer::Refused(refusal::BIT);
+        return Err(Refusal::Bit);
     }
     if conditions::areas_short(k, final_numbers.len(), final_sizes.len(), final_bits.len()) {
-        return MergeAnswer::Refused(refusal::AREA);
+        return Err(Refusal::Area);
     }
     merge_into(
         k,
@@ -106,5 +102,5 @@ pub fn merge_entries_aware_subgroups(
         final_sizes,
         final_bits,
     );
-    MergeAnswer::Done
+    Ok(())
 }

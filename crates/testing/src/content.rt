@@ -1,5 +1,6 @@
 // 6 to 10: what the tables hold, beside ids and execution orders.
 ghost use Rattle.std.specs.Prelude.{◌≡◌};
+ghost use Rattle.refusal.specs.Answers.{number_or_zero};
 ghost use Rattle.refusal.specs.Outcome.{first_number};
 ghost use Rattle.grouping.specs.Given.{Given};
 ghost use Rattle.testing.specs.Content.{content_tests, ContentReady, HandsContent};
@@ -7,8 +8,9 @@ ghost use Rattle.testing.specs.Content.{content_tests, ContentReady, HandsConten
 use conditions::ladder::{tree_number, value_number};
 use conditions::limits::bad_limit;
 use options::Options;
+use refusal::Refusal;
 
-// The number of the first that applies, and 0 if none does.
+// Refuses by the first that applies.
 pub fn content_number(
     n: usize,
     g: usize,
@@ -32,7 +34,7 @@ pub fn content_number(
     priority: &[u32],
     threshold: &[f64],
     answers: &[u32],
-) -> u32
+) -> Result<(), Refusal>
     requires { ContentReady n g k d flags.now sizes.now bits.now first.now dependency.now next.now (record {
       given = given.now;
       min_size = min_size.now;
@@ -55,12 +57,9 @@ pub fn content_number(
           tags = group_tags.now;
           priority = priority.now;
           threshold = threshold.now;
-        }) → result ≡ first_number (content_tests b) }
+        }) → number_or_zero result ≡ first_number (content_tests b) }
 {
-    let tree = tree_number(flags, sizes, first, dependency, next, n, d);
-    if tree != 0 {
-        return tree;
-    }
+    tree_number(flags, sizes, first, dependency, next, n, d)?;
     if bad_limit(
         options,
         given,
@@ -74,7 +73,7 @@ pub fn content_number(
         threshold,
         g,
     ) {
-        return refusal::NAN;
+        return Err(Refusal::Nan);
     }
     value_number(flags, bits, answers, n, e, k)
 }

@@ -4,13 +4,14 @@ ghost use Rattle.refusal.specs.Counts.{module_limit};
 ghost use Rattle.grouping.specs.Given.{Given};
 ghost use Rattle.testing.specs.Tested.{HandsAll, InputTested};
 
-use crate::Tested;
 use crate::lengths::{group_lengths, module_lengths, record_lengths};
 use crate::ordering::test_order;
 use conditions::ladder::shape_number;
 use options::Options;
+use refusal::Refusal;
 
-// The two tables have room for any build; what a refusal leaves in them is free.
+// Refuses by the first that applies, or answers how many modules are normal and included. The two tables have room for any build; what a
+// refusal leaves in them is free.
 pub fn test_input(
     n: usize,
     g: usize,
@@ -41,7 +42,7 @@ pub fn test_input(
     answers: &[u32],
     by_order: &mut [u32],
     rank: &mut [u32],
-) -> Tested
+) -> Result<usize, Refusal>
     requires { (module_limit ≤ length by_order.old) × (module_limit ≤ length rank.old) }
     ensures { (b : Given) → HandsAll b (record {
       n = n;
@@ -90,7 +91,7 @@ pub fn test_input(
         priority,
         threshold,
     );
-    let shape = shape_number(
+    shape_number(
         n,
         g,
         e,
@@ -102,10 +103,7 @@ pub fn test_input(
         answers.len(),
         bytes.len(),
         offsets,
-    );
-    if shape != 0 {
-        return Tested::Refused(shape);
-    }
+    )?;
     test_order(
         n,
         g,

@@ -4,12 +4,12 @@ ghost use Rattle.places.specs.Ordered.{Handed, Hands};
 ghost use Rattle.testing.specs.Content.{ContentReady, HandsContent};
 ghost use Rattle.testing.specs.Tested.{OrderTested};
 
-use crate::Tested;
 use crate::content::content_number;
 use options::Options;
-use places::ordered::{Ordered, put_in_order};
+use places::ordered::put_in_order;
+use refusal::Refusal;
 
-// Refuses, or leaves the modules in execution order and their ranks by id.
+// Refuses, or leaves the modules in execution order and their ranks by id, and answers how many there are.
 pub fn test_order(
     n: usize,
     g: usize,
@@ -38,7 +38,7 @@ pub fn test_order(
     answers: &[u32],
     by_order: &mut [u32],
     rank: &mut [u32],
-) -> Tested
+) -> Result<usize, Refusal>
     requires { Handed flags.now orders.now bytes.now offsets.now by_order.old rank.old
         × ContentReady n g k d flags.now sizes.now bits.now first.now dependency.now next.now (record {
           given = given.now;
@@ -66,39 +66,30 @@ pub fn test_order(
         })
         → OrderTested b result by_order.old by_order.new rank.old rank.new }
 {
-    let ordered = put_in_order(flags, orders, bytes, offsets, by_order, rank);
-    match ordered {
-        Ordered::SameId => Tested::Refused(refusal::SAME_ID),
-        Ordered::SameOrder => Tested::Refused(refusal::SAME_ORDER),
-        Ordered::Listed(count) => {
-            let number = content_number(
-                n,
-                g,
-                e,
-                k,
-                d,
-                flags,
-                sizes,
-                bits,
-                first,
-                dependency,
-                next,
-                options,
-                given,
-                min_size,
-                max_size,
-                min_module_size,
-                max_module_size,
-                min_share_count,
-                group_tags,
-                priority,
-                threshold,
-                answers,
-            );
-            if number != 0 {
-                return Tested::Refused(number);
-            }
-            Tested::Passed(count)
-        }
-    }
+    let count = put_in_order(flags, orders, bytes, offsets, by_order, rank)?;
+    content_number(
+        n,
+        g,
+        e,
+        k,
+        d,
+        flags,
+        sizes,
+        bits,
+        first,
+        dependency,
+        next,
+        options,
+        given,
+        min_size,
+        max_size,
+        min_module_size,
+        max_module_size,
+        min_share_count,
+        group_tags,
+        priority,
+        threshold,
+        answers,
+    )?;
+    Ok(count)
 }

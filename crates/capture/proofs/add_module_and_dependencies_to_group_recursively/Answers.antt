@@ -5,13 +5,16 @@ use native.Mathlib.Omega.{arith}
 use borrow.Author.Tests.{lt-ltb, le-ltb, leb-false}
 use lib.ListN.{length}
 use lib.Seq.{length-take-le, length_front}
+use Rattle.std.proofs.lemmas.Result.{err_from_is_err_and}
 use Rattle.capture.proofs.Ladder.{InputPassed, input_passed, refuses_input, refuses_12, refuses_13, answers}
 use Rattle.capture.proofs.Accepted.{start_ready, written}
 use Rattle.capture.proofs.add_module_and_dependencies_to_group_recursively.Goals as goal
 
-pub returns-then-number-ne0 : goal.returns-then-number-ne0
-returns-then-number-ne0 c =
-    refuses_input ((record {
+pub returns-in_err-test_input : goal.returns-in_err-test_input
+returns-in_err-test_input c =
+    let p = err_from_is_err_and c.from_residual.result c.from_residual.ensures.1 in
+    rw (p.1, p.2)
+    (refuses_input ((record {
       n = c.args.n;
       d = c.args.d;
       recursive = c.args.recursive;
@@ -20,13 +23,13 @@ returns-then-number-ne0 c =
       first = c.args.first.now;
       dependency = c.args.dependency.now;
       next = c.args.next.now;
-    })) ((record { marks = c.args.marks.now; scratch = c.args.scratch.now })) c.input_number-number.result c.input_number-number.ensures c.if-number-ne0.true
+    })) ((record { marks = c.args.marks.now; scratch = c.args.scratch.now })) _ c.in_err-test_input.ensures)
 
 pub returns-then-marks-n : goal.returns-then-marks-n
 returns-then-marks-n c =
     let passed : InputPassed c.args.n c.args.d c.args.from.0 c.args.flags.now c.args.first.now c.args.dependency.now c.args.next.now =
     let s = c.args in
-    input_passed s.n s.d s.from.0 s.flags.now s.first.now s.dependency.now s.next.now (sym c.if-number-ne0.false ∙ c.input_number-number.ensures) in
+    input_passed s.n s.d s.from.0 s.flags.now s.first.now s.dependency.now s.next.now c.in_ok-test_input.ensures in
     refuses_12 ((record {
       n = c.args.n;
       d = c.args.d;
@@ -42,7 +45,7 @@ pub returns-then-scratch-n : goal.returns-then-scratch-n
 returns-then-scratch-n c =
     let passed : InputPassed c.args.n c.args.d c.args.from.0 c.args.flags.now c.args.first.now c.args.dependency.now c.args.next.now =
     let s = c.args in
-    input_passed s.n s.d s.from.0 s.flags.now s.first.now s.dependency.now s.next.now (sym c.if-number-ne0.false ∙ c.input_number-number.ensures) in
+    input_passed s.n s.d s.from.0 s.flags.now s.first.now s.dependency.now s.next.now c.in_ok-test_input.ensures in
     refuses_13 ((record {
       n = c.args.n;
       d = c.args.d;
@@ -61,7 +64,7 @@ pub capture_from-requires : goal.capture_from-requires
 capture_from-requires c =
     let passed : InputPassed c.args.n c.args.d c.args.from.0 c.args.flags.now c.args.first.now c.args.dependency.now c.args.next.now =
     let s = c.args in
-    input_passed s.n s.d s.from.0 s.flags.now s.first.now s.dependency.now s.next.now (sym c.if-number-ne0.false ∙ c.input_number-number.ensures) in
+    input_passed s.n s.d s.from.0 s.flags.now s.first.now s.dependency.now s.next.now c.in_ok-test_input.ensures in
     let p = passed in
     let part = length-take-le c.args.n c.args.marks.now (omega arith) in
     start_ready ((record {
@@ -85,7 +88,7 @@ pub returns : goal.returns
 returns c =
     let passed : InputPassed c.args.n c.args.d c.args.from.0 c.args.flags.now c.args.first.now c.args.dependency.now c.args.next.now =
     let s = c.args in
-    input_passed s.n s.d s.from.0 s.flags.now s.first.now s.dependency.now s.next.now (sym c.if-number-ne0.false ∙ c.input_number-number.ensures) in
+    input_passed s.n s.d s.from.0 s.flags.now s.first.now s.dependency.now s.next.now c.in_ok-test_input.ensures in
     let f = c.capture_from in
     let p = passed in
     answers ((record {

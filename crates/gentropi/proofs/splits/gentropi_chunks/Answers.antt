@@ -1,13 +1,13 @@
 -- `gentropi::splits::gentropi_chunks` meets its contract: the options are those that the byte says are given, and each arm knows the answer.
 use mathlib.Core.Path.{ap}
-use Rattle.chunks.specs.Answer.{outcome_of}
+use Rattle.refusal.specs.Answers.{outcome_of}
 use Rattle.gentropi.proofs.Options.{chunks_exported}
 use Rattle.gentropi.proofs.splits.gentropi_chunks.Goals as goal
 
-pub returns-in-Refused : goal.returns-in-Refused
-returns-in-Refused c =
-    chunks_exported c.options_by-options.ensures (ap outcome_of c.in-Refused.is) c.split-answer.ensures
+pub returns-in-Err : goal.returns-in-Err
+returns-in-Err c =
+    rw c.number.ensures (chunks_exported c.options_by-options.ensures (ap outcome_of c.in-Err.is) c.split-answer.ensures)
 
-pub returns-in-Made : goal.returns-in-Made
-returns-in-Made c =
-    chunks_exported c.options_by-options.ensures (ap outcome_of c.in-Made.is) c.split-answer.ensures
+pub returns-in-Ok : goal.returns-in-Ok
+returns-in-Ok c =
+    chunks_exported c.options_by-options.ensures (ap outcome_of c.in-Ok.is) c.split-answer.ensures

@@ -1,6 +1,6 @@
--- `testing::input::test_input` meets its contract: 1 to 3 by their number, then 4 to 10.
-use mathlib.Core.Path.{◌≡◌, ◌∙◌}
-use native.Mathlib.Omega.{arith}
+-- `testing::input::test_input` meets its contract: 1 to 3 first, then 4 to 10.
+use mathlib.Core.Path.{◌≡◌}
+use Rattle.std.proofs.lemmas.Result.{err_from_is_err_and}
 use Rattle.grouping.specs.Given.{Shared, Variant}
 use Rattle.conditions.specs.Ladder.{shape_tests}
 use Rattle.refusal.specs.Outcome.{first_number}
@@ -8,12 +8,14 @@ use Rattle.testing.proofs.Handing.{build, hands_itself, hands_shape, hands_order
 use Rattle.testing.proofs.InputLadder.{shape_refuses, order_decides}
 use Rattle.testing.proofs.input.test_input.Goals as goal
 
-pub returns-then-shape-ne0 : goal.returns-then-shape-ne0
-returns-then-shape-ne0 c =
+pub returns-in_err-shape_number : goal.returns-in_err-shape_number
+returns-in_err-shape_number c =
+    let p = err_from_is_err_and c.from_residual.result c.from_residual.ensures.1 in
     λ b h.
-    shape_refuses c.shape_number-shape.result (omega arith)
-    (c.shape_number-shape.ensures b
-    (hands_shape _ _ _ _ _ c.module_lengths-modules.ensures c.record_lengths-records.ensures c.group_lengths-groups.ensures h))
+    rw (p.1, p.2)
+    (shape_refuses _
+    (c.in_err-shape_number.ensures b
+    (hands_shape _ _ _ _ _ c.module_lengths-modules.ensures c.record_lengths-records.ensures c.group_lengths-groups.ensures h)))
 
 pub test_order-requires : goal.test_order-requires
 test_order-requires c =
@@ -51,9 +53,8 @@ test_order-requires c =
       };
       answers = a.answers.now;
     } in
-    let none : 0 ≡ c.shape_number-shape.result = omega arith in
-    let z : 0 ≡ first_number (shape_tests (build s v)) = none
-    ∙ c.shape_number-shape.ensures (build s v)
+    let z : 0 ≡ first_number (shape_tests (build s v)) =
+    c.in_ok-shape_number.ensures (build s v)
     (hands_shape s v _ _ _ c.module_lengths-modules.ensures c.record_lengths-records.ensures c.group_lengths-groups.ensures (hands_itself s v)) in
     (order_ready s v z _ _ c.requires.0 c.requires.1, content_ready s v z)
 
@@ -93,13 +94,11 @@ returns c =
       };
       answers = a.answers.now;
     } in
-    let none : 0 ≡ c.shape_number-shape.result = omega (arith, c.if-shape-ne0.false) in
-    let z : 0 ≡ first_number (shape_tests (build s v)) = none
-    ∙ c.shape_number-shape.ensures (build s v)
+    let z : 0 ≡ first_number (shape_tests (build s v)) =
+    c.in_ok-shape_number.ensures (build s v)
     (hands_shape s v _ _ _ c.module_lengths-modules.ensures c.record_lengths-records.ensures c.group_lengths-groups.ensures (hands_itself s v)) in
     λ b h.
     order_decides
-    (none
-    ∙ c.shape_number-shape.ensures b
+    (c.in_ok-shape_number.ensures b
     (hands_shape s v _ _ _ c.module_lengths-modules.ensures c.record_lengths-records.ensures c.group_lengths-groups.ensures h))
     (c.test_order.ensures b (hands_order s v z h) (hands_content s v z h))

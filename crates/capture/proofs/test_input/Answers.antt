@@ -1,4 +1,4 @@
--- `capture::input_number` meets its contract: the number is that of the first test that applies.
+-- `capture::test_input` meets its contract: the number is that of the first test that applies.
 use mathlib.Core.Bool.{false}
 use mathlib.Core.Path.{◌≡◌, sym, ◌∙◌}
 use native.Mathlib.Omega.{arith}
@@ -7,7 +7,7 @@ use Rattle.refusal.proofs.Ladder.{none_applies, applies, passes, number, no_numb
 use Rattle.records.specs.Bad.{bad_records}
 use Rattle.capture.specs.Call.{bad_counts, bad_lengths, input_tests}
 use Rattle.capture.proofs.Accepted.{records_within, flag_lengths, record_tables}
-use Rattle.capture.proofs.input_number.Goals as goal
+use Rattle.capture.proofs.test_input.Goals as goal
 
 pub returns-then-bad_counts : goal.returns-then-bad_counts
 unfolding input_tests
