@@ -7,12 +7,12 @@ use Rattle.gentropi.proofs.filters.gentropi_filter.Goals as goal
 
 pub returns-in-Refused : goal.returns-in-Refused
 returns-in-Refused c =
-    let e = rw (c.limit_given.ensures, c.limit_given-2.ensures, c.shares_given.ensures) at c.passes_static_filters-answer.ensures in
+    let e = rw (c.then_some.ensures, c.then_some-2.ensures, c.then_some-3.ensures) at c.passes_static_filters-answer.ensures in
     let same = sym (ap outcome_of c.in-Refused.is) ∙ e in
     record { number = number_of_lem same; place = places_after same value_or _ }
 
 pub returns-in-Passes : goal.returns-in-Passes
 returns-in-Passes c =
-    let e = rw (c.limit_given.ensures, c.limit_given-2.ensures, c.shares_given.ensures) at c.passes_static_filters-answer.ensures in
+    let e = rw (c.then_some.ensures, c.then_some-2.ensures, c.then_some-3.ensures) at c.passes_static_filters-answer.ensures in
     let same = sym (ap outcome_of c.in-Passes.is) ∙ e in
     record { number = number_of_lem same; place = places_after same value_or _ }
