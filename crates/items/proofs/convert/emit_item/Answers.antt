@@ -27,7 +27,7 @@ returns-in_default c =
     let a = c.args in
     let t : Tables = record { bytes = a.bytes.now; offsets = a.offsets.now; sizes = a.sizes.now; rank = a.rank.now } in
     whole_converted t a.members.now c.requires.totalled.whole
-    (emitted_by_lem t a.members.now c.requires.totalled.whole a.limits.maximum a.head a.limits.minimum (sym c.over_limit-over.ensures ∙ c.in_default.is))
+    (emitted_by_lem t a.members.now c.requires.totalled.whole a.limits.maximum a.head a.limits.minimum (sym c.over_limit.ensures ∙ c.in_default.is))
     c.emit_chunk.ensures
 
 -- the pieces of an item above its maximum, under its head made anew
@@ -42,7 +42,7 @@ returns-then-head c =
     let t : Tables = record { bytes = a.bytes.now; offsets = a.offsets.now; sizes = a.sizes.now; rank = a.rank.now } in
     same_converted
     (made_anew t a.limits a.head a.members.now c.in-Some.maximum
-    (emitted_by_lem t a.members.now c.requires.totalled.whole a.limits.maximum a.head a.limits.minimum (sym c.over_limit-over.ensures ∙ c.in-Some.is))
+    (emitted_by_lem t a.members.now c.requires.totalled.whole a.limits.maximum a.head a.limits.minimum (sym c.over_limit.ensures ∙ c.in-Some.is))
     c.if-head.true)
     c.emit_over_maximum.ensures
 
@@ -52,6 +52,6 @@ returns c =
     let t : Tables = record { bytes = a.bytes.now; offsets = a.offsets.now; sizes = a.sizes.now; rank = a.rank.now } in
     same_converted
     (made_anew t a.limits a.head a.members.now c.in-Some.maximum
-    (emitted_by_lem t a.members.now c.requires.totalled.whole a.limits.maximum a.head a.limits.minimum (sym c.over_limit-over.ensures ∙ c.in-Some.is))
+    (emitted_by_lem t a.members.now c.requires.totalled.whole a.limits.maximum a.head a.limits.minimum (sym c.over_limit.ensures ∙ c.in-Some.is))
     c.if-head.false)
     c.emit_over_maximum-2.ensures
