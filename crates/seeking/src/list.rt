@@ -3,22 +3,15 @@ ghost use Rattle.std.specs.Prelude.{◌≡◌, length};
 ghost use mathlib.Core.List.{Memᴰ};
 ghost use Rattle.seeking.specs.Listed.{Ascends, StandsAt, Removed};
 
-// The place of a number: the places that it can have are halved until one is left.
+// The place of a number that the list has.
 pub fn place_of(list: &[u32], number: u32) -> usize
     requires { Ascends list.now × Memᴰ number list.now }
     ensures { StandsAt list.now number result }
 {
-    let mut low = 0;
-    let mut high = list.len();
-    while 1 < high - low {
-        let middle = low + (high - low) / 2;
-        if number < list[middle] {
-            high = middle;
-        } else {
-            low = middle;
-        }
+    match list.binary_search(&number) {
+        Ok(place) => place,
+        Err(place) => place,
     }
-    low
 }
 
 // Takes a number off the list, and the word beside it: what follows moves up by one. The last places keep what they had.
