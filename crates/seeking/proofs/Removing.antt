@@ -7,8 +7,8 @@ use native.Mathlib.Nat.{not-suc-le-zero, le_of_suc-le-suc}
 use native.Mathlib.Omega.{arith}
 use borrow.Author.Tests.{eq-eqb, ne_eqb}
 use lib.Dec.{eqb}
-use lib.ListN.{length, get_or, set, take, drop, length-set, length-append, length-take, length-drop}
-use lib.Seq.{length-take-le, take-suc, take_at, take_all, paste, take-paste, take-suc-set, get_or-set_other, get_or-append-add, get_or-drop, get_or-take}
+use lib.ListN.{length, get_or, take, drop, length-append, length-take, length-drop}
+use lib.Seq.{length-take-le, take_at, take_all, paste, take-paste, get_or-append-add, get_or-drop, get_or-take}
 use Rattle.lists.specs.Keep.{keep, keep_head}
 use Rattle.lists.proofs.Sort.{more}
 use Rattle.lists.proofs.Distinct.{Distinct}

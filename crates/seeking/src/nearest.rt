@@ -159,12 +159,5 @@ pub fn find_target(
     let one = Candidate::target_at(sizes, bits, there[0] as usize, wanted);
     let blocks = block_count(there.len(), one.distance);
     let mut few = [0u8; 256];
-    Some(nearest_listed(
-        there,
-        words,
-        &mut few[..blocks],
-        sizes,
-        bits,
-        wanted,
-    ))
+    Some(nearest_listed(there, words, &mut few[..blocks], sizes, bits, wanted))
 }

@@ -72,8 +72,8 @@ find_target-requires c =
     c.find_seeker.result c.find_seeker.ensures c.in-Some.seeker c.in-Some.is
     (held c.subgroup_at-joining.result) c.subgroup_at-joining.ensures _ gone.0 c.remove.new.words gone.1
 
-pub returns-in_default-2 : goal.returns-in_default-2
-returns-in_default-2 c =
+pub returns-in_default-find_target : goal.returns-in_default-find_target
+returns-in_default-find_target c =
     let a = c.args in
     let gone : (take (length c.remove.new.list - 1) c.remove.new.list ≡ but_one c.in-Some.seeker.number c.args.there.now)
     × FirstWords (take (length c.remove.new.list - 1) c.remove.new.list) c.remove.new.words c.args.bits.now =
@@ -83,7 +83,7 @@ returns-in_default-2 c =
     turn_without_target a.threshold a.numbers.now a.sizes.now a.bits.now a.there.now a.heads.now c.requires.0 c.requires.1 c.requires.2
     c.find_seeker.result c.find_seeker.ensures c.in-Some.seeker c.in-Some.is
     (held c.subgroup_at-joining.result) c.subgroup_at-joining.ensures _ gone.0
-    c.find_target.result c.find_target.ensures c.in_default-2.is c.remove.new.list c.remove.new.words
+    c.find_target.result c.find_target.ensures c.in_default-find_target.is c.remove.new.list c.remove.new.words
 
 pub subgroup_at-joined-requires : goal.subgroup_at-joined-requires
 subgroup_at-joined-requires c =
@@ -96,7 +96,7 @@ subgroup_at-joined-requires c =
     let row = target_row a.threshold a.numbers.now a.sizes.now a.bits.now a.there.now a.heads.now c.requires.0 c.requires.1 c.requires.2
     c.find_seeker.result c.find_seeker.ensures c.in-Some.seeker c.in-Some.is
     (held c.subgroup_at-joining.result) c.subgroup_at-joining.ensures _ gone.0
-    c.find_target.result c.find_target.ensures c.in-Some-2.target c.in-Some-2.is in
+    c.find_target.result c.find_target.ensures c.in-Some-find_target.target c.in-Some-find_target.is in
     record { in_row = row.0; i_bound = row.1 }
 
 pub join-requires : goal.join-requires
@@ -110,7 +110,7 @@ join-requires c =
     join_fits a.threshold a.numbers.now a.sizes.now a.bits.now a.there.now a.heads.now c.requires.0 c.requires.1 c.requires.2
     c.find_seeker.result c.find_seeker.ensures c.in-Some.seeker c.in-Some.is
     (held c.subgroup_at-joining.result) c.subgroup_at-joining.ensures _ gone.0
-    c.find_target.result c.find_target.ensures c.in-Some-2.target c.in-Some-2.is (held c.subgroup_at-joined.result) c.subgroup_at-joined.ensures
+    c.find_target.result c.find_target.ensures c.in-Some-find_target.target c.in-Some-find_target.is (held c.subgroup_at-joined.result) c.subgroup_at-joined.ensures
 
 pub rewrite_word-requires : goal.rewrite_word-requires
 rewrite_word-requires c =
@@ -123,7 +123,7 @@ rewrite_word-requires c =
     let fits = rewrite_fits a.threshold a.numbers.now a.sizes.now a.bits.now a.there.now a.heads.now c.requires.0 c.requires.1 c.requires.2
     c.find_seeker.result c.find_seeker.ensures c.in-Some.seeker c.in-Some.is
     (held c.subgroup_at-joining.result) c.subgroup_at-joining.ensures _ gone.0
-    c.find_target.result c.find_target.ensures c.in-Some-2.target c.in-Some-2.is (held c.subgroup_at-joined.result) c.subgroup_at-joined.ensures
+    c.find_target.result c.find_target.ensures c.in-Some-find_target.target c.in-Some-find_target.is (held c.subgroup_at-joined.result) c.subgroup_at-joined.ensures
     c.join.new.numbers c.join.new.sizes c.join.new.bits c.join.ensures in
     (fits.0, fits.1, gone.1.room, fits.2, fits.3)
 
@@ -138,7 +138,7 @@ refresh-requires c =
     let fits = refresh_fits a.threshold a.numbers.now a.sizes.now a.bits.now a.there.now a.heads.now c.requires.0 c.requires.1 c.requires.2
     c.find_seeker.result c.find_seeker.ensures c.in-Some.seeker c.in-Some.is
     (held c.subgroup_at-joining.result) c.subgroup_at-joining.ensures _ gone.0
-    c.find_target.result c.find_target.ensures c.in-Some-2.target c.in-Some-2.is (held c.subgroup_at-joined.result) c.subgroup_at-joined.ensures
+    c.find_target.result c.find_target.ensures c.in-Some-find_target.target c.in-Some-find_target.is (held c.subgroup_at-joined.result) c.subgroup_at-joined.ensures
     c.join.new.numbers c.join.new.sizes c.join.new.bits c.join.ensures in
     (fits.0, fits.1, fits.2, fits.4)
 
@@ -153,7 +153,7 @@ refresh-requires-2 c =
     let fits = refresh_fits a.threshold a.numbers.now a.sizes.now a.bits.now a.there.now a.heads.now c.requires.0 c.requires.1 c.requires.2
     c.find_seeker.result c.find_seeker.ensures c.in-Some.seeker c.in-Some.is
     (held c.subgroup_at-joining.result) c.subgroup_at-joining.ensures _ gone.0
-    c.find_target.result c.find_target.ensures c.in-Some-2.target c.in-Some-2.is (held c.subgroup_at-joined.result) c.subgroup_at-joined.ensures
+    c.find_target.result c.find_target.ensures c.in-Some-find_target.target c.in-Some-find_target.is (held c.subgroup_at-joined.result) c.subgroup_at-joined.ensures
     c.join.new.numbers c.join.new.sizes c.join.new.bits c.join.ensures in
     (fits.0, fits.1, fits.3, omega (arith, fits.4, c.refresh.auto.heads))
 
@@ -168,7 +168,7 @@ returns c =
     turn_with_join a.threshold a.numbers.now a.sizes.now a.bits.now a.there.now a.heads.now c.requires.0 c.requires.1 c.requires.2
     c.find_seeker.result c.find_seeker.ensures c.in-Some.seeker c.in-Some.is
     (held c.subgroup_at-joining.result) c.subgroup_at-joining.ensures _ gone.0
-    c.find_target.result c.find_target.ensures c.in-Some-2.target c.in-Some-2.is (held c.subgroup_at-joined.result) c.subgroup_at-joined.ensures
+    c.find_target.result c.find_target.ensures c.in-Some-find_target.target c.in-Some-find_target.is (held c.subgroup_at-joined.result) c.subgroup_at-joined.ensures
     c.join.new.numbers c.join.new.sizes c.join.new.bits c.remove.new.list c.join.ensures
     (sym (ap (λ n. take (n - 1) c.remove.new.list) c.remove.auto.list))
     c.remove.new.words c.rewrite_word.new.words gone.1 c.rewrite_word.ensures

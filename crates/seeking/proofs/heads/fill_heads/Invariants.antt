@@ -1,5 +1,5 @@
 -- The invariant: the first j heads stand for their blocks.
-use Prim.Native.Nat.{ℕ, ◌-◌, ◌≤◌, ◌<◌}
+use Prim.Native.Nat.{ℕ, ◌≤◌, ◌<◌}
 use mathlib.Core.Path.{◌≡◌}
 use lib.ListN.{length, get_or}
 use Rattle.seeking.specs.Seekers.{StandsFor}

@@ -1,5 +1,5 @@
 -- The invariant: `best` stands for the numbers of the block below i.
-use Prim.Native.Nat.{◌-◌, ◌≤◌}
+use Prim.Native.Nat.{◌≤◌}
 use Rattle.seeking.proofs.Blocks.{LookedThrough}
 use Rattle.seeking.proofs.heads.head_of.Given as goal
 

@@ -1,5 +1,5 @@
 -- The invariant: the nearest so far, once the blocks up to j were looked at.
-use Prim.Native.Nat.{◌*◌, ◌-◌, ◌≤◌}
+use Prim.Native.Nat.{◌*◌, ◌≤◌}
 use Rattle.seeking.specs.Search.{Nearer}
 use Rattle.seeking.proofs.nearest.or_blocks.Given as goal
 

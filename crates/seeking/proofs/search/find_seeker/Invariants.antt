@@ -1,8 +1,7 @@
 -- The invariant: the best so far is the first seeker of the first i heads.
-use Prim.Native.Nat.{◌-◌, ◌≤◌}
 use mathlib.Core.List.{map}
 use mathlib.Core.Path.{◌≡◌}
-use lib.ListN.{length, take}
+use lib.ListN.{take}
 use Rattle.lists.specs.Keep.{keep}
 use Rattle.lists.specs.Least.{least}
 use Rattle.joins.specs.Candidate.{seeking, comes_first, seeker_at}

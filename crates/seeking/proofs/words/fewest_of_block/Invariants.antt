@@ -1,5 +1,5 @@
 -- The invariant: the fewest so far is that of the first i words of the block.
-use Prim.Native.Nat.{◌-◌, ◌≤◌}
+use Prim.Native.Nat.{◌≤◌}
 use mathlib.Core.Path.{◌≡◌}
 use Rattle.seeking.specs.Listed.{fewest}
 use Rattle.seeking.proofs.words.fewest_of_block.Given as goal

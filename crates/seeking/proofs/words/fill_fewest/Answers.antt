@@ -1,7 +1,7 @@
 -- The invariant: the fewest of the first j blocks are written, and the answer so far is a block.
 use Prim.Native.Nat.{ℕ, ◌*◌, ◌-◌, ◌≤◌}
 use mathlib.Core.List.{List}
-use mathlib.Core.Path.{refl, sym, ◌∙◌, subst}
+use mathlib.Core.Path.{refl, sym, ◌∙◌}
 use native.Mathlib.Omega.{arith}
 use lib.ListN.{length}
 use Rattle.lists.proofs.Front.{none_placed, one_written, all_copied}
@@ -35,8 +35,8 @@ loop-j-preserved c =
           (c.fewest_of_block-here.ensures
           ∙ sym (get_or_map_range (ofBlock a.words.now a.wanted) (length a.few.now) l.j 0 (omega (arith, long)))),
       elim c.if-here-least.branch [
-        then-here-least w ↦ omega (arith, inside, w.first-is)
-      | else-here-least w ↦ omega (arith, l.invariant.1, w.first-is)
+        | then-here-least w ↦ omega (arith, inside, w.first-is)
+        | else-here-least w ↦ omega (arith, l.invariant.1, w.first-is)
       ],
     )
 

@@ -1,5 +1,5 @@
 -- `seeking::words::fill_words` meets its contract: one word more is written a turn, the rest are as they were.
-use Prim.Native.Nat.{◌*◌, ◌-◌}
+use Prim.Native.Nat.{◌*◌}
 use mathlib.Core.List.{map}
 use lib.ListN.{length, get_or}
 use Rattle.lists.specs.Range.{range}
