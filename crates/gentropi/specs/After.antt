@@ -1,6 +1,6 @@
 -- The places that an exported function writes, before and after a call: a refusal leaves them as they were.
 use Rattle.std.specs.Bool.{then_some}
-use Rattle.std.specs.Prelude.{ℕ, Bool, true, false, List, ◌≡◌, Float, length}
+use Rattle.std.specs.Prelude.{ℕ, Bool, List, ◌≡◌, Float, length}
 use Rattle.refusal.specs.Outcome.{Outcome, refused, accepted, number_of, value_or}
 use Rattle.refusal.specs.Call.{Call}
 use Rattle.filter.specs.declared.StaticFilter.{StaticFilter}
