@@ -11,7 +11,7 @@ ghost use Rattle.cut.specs.Scan.{considered};
 use crate::Cut;
 use crate::alike::similarity_between;
 use crate::candidate::Candidate;
-use crate::scan::{Best, Bounds, both_reach};
+use crate::scan::{Bounds, both_reach, into_cut, or_better};
 use index::ModuleIdx;
 
 // All sizes, added one after the other.
@@ -20,10 +20,8 @@ fn total_of(sizes: &[u64]) -> f64
     ensures { result ≡ sum_f64 sizes.now }
 {
     let mut total = 0.0;
-    let mut i = 0;
-    while i < sizes.len() {
-        total = total + sizes[i] as f64;
-        i = i + 1;
+    for &size in sizes {
+        total += size as f64;
     }
     total
 }
@@ -36,8 +34,8 @@ fn look_at(
     left: f64,
     right: f64,
     bounds: Bounds,
-    best: Best,
-) -> Best
+    best: Option<Candidate>,
+) -> Option<Candidate>
     requires named_pair { NamedPair bytes.now offsets.now (i - 1) i }
     requires le_i { (1 ≤ i) × (i < 2 ^ 32) }
     ensures { result ≡ considered bounds best (record {
@@ -59,7 +57,7 @@ fn look_at(
         left,
         right,
     };
-    best.or_better(candidate, bounds.maximum)
+    or_better(best, candidate, bounds.maximum)
 }
 
 // The cut of ids and sizes in the order given.
@@ -70,13 +68,11 @@ pub fn pick_given(bytes: &[u8], offsets: &[u32], sizes: &[u64], minimum: f64, ma
 {
     let bounds = Bounds { minimum, maximum };
     let total = total_of(sizes);
-    let mut best = Best::Nothing;
+    let mut best = None;
     let mut left = 0.0;
-    let mut i = 1;
-    while i < sizes.len() {
-        left = left + sizes[i - 1] as f64;
+    for i in 1..sizes.len() {
+        left += sizes[i - 1] as f64;
         best = look_at(bytes, offsets, i, left, total - left, bounds, best);
-        i = i + 1;
     }
-    best.into_cut(sizes.len())
+    into_cut(best, sizes.len())
 }

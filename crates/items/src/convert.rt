@@ -8,7 +8,6 @@ use cut::sizes::total_size;
 use emitting::emit::{Head, emit_chunk};
 use index::ChunkIdx;
 use left::keep_left;
-use limit::Limit;
 use oversized::marks::WITHIN;
 use oversized::order::in_id_order;
 use pieces::emit_oversized;
@@ -17,20 +16,14 @@ use pieces::emit_oversized;
 #[derive(Clone, Copy)]
 pub struct Limits {
     pub minimum: f64,
-    pub maximum: Limit,
+    pub maximum: Option<f64>,
 }
 
 // The maximum, if the size is strictly above it.
-fn over_limit(maximum: Limit, size: f64) -> Limit
+fn over_limit(maximum: Option<f64>, size: f64) -> Option<f64>
     ensures { result ≡ over_limit maximum size }
 {
-    let Limit::Given(limit) = maximum else {
-        return Limit::Absent;
-    };
-    if limit < size {
-        return Limit::Given(limit);
-    }
-    Limit::Absent
+    maximum.filter(|limit| *limit < size)
 }
 
 // Puts modules above the maximum in id order, and emits them in pieces.
@@ -152,9 +145,7 @@ fn emit_item(
     }) }
 {
     let minimum = limits.minimum;
-    let given = limits.maximum;
-    let over = over_limit(given, total);
-    let Limit::Given(maximum) = over else {
+    let Some(maximum) = over_limit(limits.maximum, total) else {
         emit_chunk(
             head, members, total, WITHIN, bits, number, at, chunk_of, group_of, name_of, size_of,
             bits_of, mark_of,

@@ -50,19 +50,17 @@ fn join_next(
     ensures { Turn threshold result numbers.old sizes.old bits.old there.old
         numbers.new sizes.new bits.new there.new words.new heads.new }
 {
-    let seeker = find_seeker(heads, sizes, threshold);
-    if !seeker.found {
+    let Some(seeker) = find_seeker(heads, sizes, threshold) else {
         return false;
-    }
-    let from = seeker.candidate.number;
+    };
+    let from = seeker.number;
     let joining = subgroup_at(sizes, bits, from);
     remove(there, words, from as u32);
     let left = there.len() - 1;
-    let target = find_target(&there[..left], words, sizes, bits, joining.bits);
-    if !target.found {
+    let Some(target) = find_target(&there[..left], words, sizes, bits, joining.bits) else {
         return false;
-    }
-    let to = target.candidate.number;
+    };
+    let to = target.number;
     let joined = subgroup_at(sizes, bits, to);
     join(numbers, sizes, bits, joining, joined);
     rewrite_word(words, &there[..left], bits, to);

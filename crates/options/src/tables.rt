@@ -1,42 +1,12 @@
 // The groups as flat tables: an option that a group has, and a group read from its entries.
 ghost use Rattle.std.specs.Prelude.{◌≡◌};
-ghost use Rattle.options.specs.Tables.{limit_if, shares_if, recursion_if, options_by, group_at, HasGroup};
+ghost use Rattle.options.specs.Tables.{options_by, group_at, HasGroup};
 
-use crate::{Group, Options, Recursion};
-use filter::MinShareCount;
-use limit::Limit;
-
-fn limit_if(given: bool, limit: f64) -> Limit
-    ensures { result ≡ limit_if given limit }
-{
-    if given {
-        return Limit::Given(limit);
-    }
-    Limit::Absent
-}
-
-fn shares_if(given: bool, minimum: u32) -> MinShareCount
-    ensures { result ≡ shares_if given minimum }
-{
-    if given {
-        return MinShareCount::Given(minimum);
-    }
-    MinShareCount::Absent
-}
-
-fn recursion_if(given: bool, on: bool) -> Recursion
-    ensures { result ≡ recursion_if given on }
-{
-    if given {
-        if on {
-            return Recursion::On;
-        }
-        return Recursion::Off;
-    }
-    Recursion::Absent
-}
+use crate::{Group, Options};
+use bitset::word::test_bit;
 
 // The options that a group's byte says it has.
+#[tactic(auto, unfolding(crate::specs::Tables::options_by))]
 pub fn options_by(
     has: u64,
     min_size: f64,
@@ -48,15 +18,12 @@ pub fn options_by(
     ensures { result ≡ options_by has min_size max_size min_module_size max_module_size min_share_count }
 {
     Options {
-        min_size: limit_if(bitset::word::test_bit(has, 0), min_size),
-        max_size: limit_if(bitset::word::test_bit(has, 1), max_size),
-        min_module_size: limit_if(bitset::word::test_bit(has, 2), min_module_size),
-        max_module_size: limit_if(bitset::word::test_bit(has, 3), max_module_size),
-        min_share_count: shares_if(bitset::word::test_bit(has, 4), min_share_count),
-        recursion: recursion_if(
-            bitset::word::test_bit(has, 5),
-            bitset::word::test_bit(has, 6),
-        ),
+        min_size: test_bit(has, 0).then_some(min_size),
+        max_size: test_bit(has, 1).then_some(max_size),
+        min_module_size: test_bit(has, 2).then_some(min_module_size),
+        max_module_size: test_bit(has, 3).then_some(max_module_size),
+        min_share_count: test_bit(has, 4).then_some(min_share_count),
+        recursion: test_bit(has, 5).then_some(test_bit(has, 6)),
     }
 }
 
@@ -108,7 +75,7 @@ pub fn group_at(
         ),
         tags: tags[g],
         priority: priority[g],
-        entries_aware: bitset::word::test_bit(has, 7),
+        entries_aware: test_bit(has, 7),
         threshold: threshold[g],
     }
 }

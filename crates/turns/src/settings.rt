@@ -5,8 +5,7 @@ ghost use Rattle.options.specs.Tables.{group_at};
 ghost use Rattle.conditions.specs.HandsIn.{HasGroups};
 ghost use Rattle.turns.specs.Order.{AreSettings};
 
-use filter::{MinShareCount, StaticFilter};
-use limit::Limit;
+use filter::StaticFilter;
 use options::force::settings_under;
 use options::tables::group_at;
 use options::{Options, Settings};
@@ -16,16 +15,16 @@ fn unset() -> Settings {
     Settings {
         filter: StaticFilter {
             tags: 0,
-            min_module_size: Limit::Absent,
-            max_module_size: Limit::Absent,
-            min_share_count: MinShareCount::Absent,
+            min_module_size: None,
+            max_module_size: None,
+            min_share_count: None,
         },
         recursive: false,
         priority: 0,
         entries_aware: false,
         threshold: 0.0,
         min_size: 0.0,
-        max_size: Limit::Absent,
+        max_size: None,
     }
 }
 

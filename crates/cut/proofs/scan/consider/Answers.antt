@@ -1,8 +1,8 @@
--- `cut::scan::Best::consider` meets its contract: a cut that is passed over leaves the best as it is, and any other is compared with it.
+-- `cut::scan::consider` meets its contract: a cut that is passed over leaves the best as it is, and any other is compared with it.
 use mathlib.Core.Path.{sym, ◌∙◌}
 use Rattle.cut.specs.Candidate.{allowed}
 use Rattle.cut.proofs.Looking.{too_alike, not_allowed_lem, is_allowed}
-use Rattle.cut.proofs.scan.Best.consider.Goals as goal
+use Rattle.cut.proofs.scan.consider.Goals as goal
 
 pub returns-then-rules_out : goal.returns-then-rules_out
 returns-then-rules_out c = sym (too_alike _ _ _ (sym c.rules_out.ensures ∙ c.if-rules_out.true))
