@@ -19,9 +19,9 @@ pub fn merge() {
         &mut bits,
     );
     show(answer);
-    looks::numbers(b"merge", b"numbers were written", &numbers, 0);
-    looks::words(b"merge", b"sizes were written", &sizes, 0);
-    looks::words(b"merge", b"bits were written", &bits, 0);
+    looks::untouched(b"merge", b"numbers were written", &numbers, 0);
+    looks::untouched(b"merge", b"sizes were written", &sizes, 0);
+    looks::untouched(b"merge", b"bits were written", &bits, 0);
 }
 
 fn show(answer: MergeAnswer) {

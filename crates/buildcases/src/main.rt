@@ -11,7 +11,7 @@ fn read_input(input: &mut [u8; 1048576]) -> usize {
 }
 
 fn answer_input(input: &[u8; 1048576], n: usize) {
-    cases::answer_all(textform::entries::bytes(input, n));
+    cases::answer_all(textform::entries::front(input, n));
 }
 
 fn main() {

@@ -14,7 +14,7 @@ struct Walk {
 
 fn column(n: u32) {
     out::blank();
-    out::short(n);
+    out::number(n);
 }
 
 fn word(n: u64) {
@@ -107,7 +107,7 @@ fn chunk(
 {
     let first = first_of[r];
     let held = held_of(first, chunk_of);
-    out::short(less_one(held));
+    out::number(less_one(held));
     column(group_of[r]);
     column(name_of[r]);
     out::size(size_of[r]);

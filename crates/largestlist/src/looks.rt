@@ -11,7 +11,7 @@ pub fn warn(what: &[u8]) {
 }
 
 fn numbers(what: &[u8], area: &[u32], from: usize) {
-    if !areas::numbers_kept(area, from) {
+    if !areas::kept(area, from) {
         warn(what);
     }
 }
@@ -31,13 +31,13 @@ pub fn records(
     numbers(b"first_of was written", first_of, from);
     numbers(b"group_of was written", group_of, from);
     numbers(b"name_of was written", name_of, from);
-    if !areas::sizes_kept(size_of, from) {
+    if !areas::kept(size_of, from) {
         warn(b"size_of was written");
     }
-    if !areas::words_kept(bits_of, 4 * from) {
+    if !areas::kept(bits_of, 4 * from) {
         warn(b"bits_of was written");
     }
-    if !areas::bytes_kept(mark_of, from) {
+    if !areas::kept(mark_of, from) {
         warn(b"mark_of was written");
     }
 }

@@ -13,17 +13,15 @@ fn word(n: u64) {
 fn bits(r: usize, bits_of: &[u64; 512])
     requires { r < 128 }
 {
-    let from = 4 * r;
-    word(bits_of[from]);
-    word(bits_of[from + 1]);
-    word(bits_of[from + 2]);
-    word(bits_of[from + 3]);
+    for n in &bits_of[4 * r..4 * r + 4] {
+        word(*n);
+    }
 }
 
 // A chunk's mark: whether it is above its maximum, and why.
 fn mark(held: u8) {
     out::blank();
-    out::number(held as u64);
+    out::number(held);
 }
 
 // A module, and what the area says after it: the next module plus 1, or 0. Past the last module there is no good number.
@@ -31,12 +29,8 @@ fn module_and_next(m: ModuleIdx, n: usize, next_of: &[u32; 128]) -> u32
     requires { n ≤ 128 }
 {
     out::blank();
-    out::short(m.0);
-    let i = m.0 as usize;
-    if i < n {
-        return next_of[i];
-    }
-    4294967295
+    out::number(m.0);
+    next_of[..n].get(m.0 as usize).copied().unwrap_or(u32::MAX)
 }
 
 // The modules of a chunk. Answers whether the chain ends, and names modules alone.
@@ -44,34 +38,30 @@ fn modules(first: u32, n: usize, next_of: &[u32; 128]) -> bool
     requires { n ≤ 128 }
 {
     let mut rest = first;
-    let mut i = 0;
-    while i < n {
+    for _ in 0..n {
         if rest == 0 {
             return true;
         }
         rest = module_and_next(ModuleIdx(rest - 1), n, next_of);
-        i = i + 1;
     }
     rest == 0
 }
 
 // The number of the chunk that a module is in, which is held plus 1.
 fn number(held: u32) {
-    if held == 0 {
-        out::text(b"?");
-        return;
+    match held.checked_sub(1) {
+        Some(chunk) => out::number(chunk),
+        None => out::text(b"?"),
     }
-    out::short(held - 1);
 }
 
 // The number of a chunk, which its first module has. That module is held plus 1.
 fn chunk_number(first: u32, chunk_of: &[u32; 128]) {
-    if first == 0 {
+    let Some(module) = first.checked_sub(1) else {
         return;
-    }
-    let i = (first - 1) as usize;
-    if i < 128 {
-        number(chunk_of[i]);
+    };
+    if let Some(held) = chunk_of.get(module as usize) {
+        number(*held);
     }
 }
 
@@ -94,9 +84,9 @@ fn chunk(
     out::text(b"c ");
     chunk_number(first, chunk_of);
     out::blank();
-    out::short(group_of[r]);
+    out::number(group_of[r]);
     out::blank();
-    out::short(name_of[r]);
+    out::number(name_of[r]);
     out::double(size_of[r]);
     out::size(size_of[r]);
     bits(r, bits_of);
@@ -122,14 +112,12 @@ pub fn chunks(
     requires { (count ≤ 128) × (n ≤ 128) }
 {
     let mut good = true;
-    let mut i = 0;
-    while i < count {
+    for r in 0..count {
         if !chunk(
-            i, n, chunk_of, next_of, first_of, group_of, name_of, size_of, bits_of, mark_of,
+            r, n, chunk_of, next_of, first_of, group_of, name_of, size_of, bits_of, mark_of,
         ) {
             good = false;
         }
-        i = i + 1;
     }
     good
 }
@@ -139,32 +127,17 @@ pub fn chunk_of_modules(n: usize, chunk_of: &[u32; 128])
     requires { n ≤ 128 }
 {
     out::text(b"m");
-    let mut i = 0;
-    while i < n {
+    for held in &chunk_of[..n] {
         out::blank();
-        out::short(chunk_of[i]);
-        i = i + 1;
+        out::number(*held);
     }
     out::text(b"\nend\n");
-}
-
-fn is_loose(held: u32, next: u32) -> bool {
-    if held == 0 {
-        return next != 0;
-    }
-    false
 }
 
 // Whether a module that is in no chunk has a next one all the same, which no line shows.
 pub fn any_loose(n: usize, chunk_of: &[u32; 128], next_of: &[u32; 128]) -> bool
     requires { n ≤ 128 }
 {
-    let mut i = 0;
-    while i < n {
-        if is_loose(chunk_of[i], next_of[i]) {
-            return true;
-        }
-        i = i + 1;
-    }
-    false
+    let mut modules = chunk_of[..n].iter().zip(&next_of[..n]);
+    modules.any(|(held, next)| *held == 0 && *next != 0)
 }

@@ -2,6 +2,7 @@
 ghost use Rattle.std.specs.Prelude.{◌≤◌};
 
 use crate::areas;
+use crate::areas::Entry;
 use textform::out;
 
 pub fn warn(tag: &[u8], what: &[u8]) {
@@ -11,26 +12,9 @@ pub fn warn(tag: &[u8], what: &[u8]) {
     out::line_end();
 }
 
-fn numbers(tag: &[u8], what: &[u8], area: &[u32], from: usize) {
-    if !areas::numbers_kept(area, from) {
-        warn(tag, what);
-    }
-}
-
-fn bytes(tag: &[u8], what: &[u8], area: &[u8], from: usize) {
-    if !areas::bytes_kept(area, from) {
-        warn(tag, what);
-    }
-}
-
-fn words(tag: &[u8], what: &[u8], area: &[u64], from: usize) {
-    if !areas::words_kept(area, from) {
-        warn(tag, what);
-    }
-}
-
-fn sizes(tag: &[u8], what: &[u8], area: &[f64], from: usize) {
-    if !areas::sizes_kept(area, from) {
+// Entries from a place on, which no call may have written.
+fn untouched<T: Entry>(tag: &[u8], what: &[u8], area: &[T], from: usize) {
+    if !areas::kept(area, from) {
         warn(tag, what);
     }
 }
@@ -48,23 +32,23 @@ pub fn records(
 )
     requires { from ≤ 128 }
 {
-    numbers(tag, b"first_of was written", first_of, from);
-    numbers(tag, b"group_of was written", group_of, from);
-    numbers(tag, b"name_of was written", name_of, from);
-    sizes(tag, b"size_of was written", size_of, from);
-    words(tag, b"bits_of was written", bits_of, 4 * from);
-    bytes(tag, b"mark_of was written", mark_of, from);
+    untouched(tag, b"first_of was written", first_of, from);
+    untouched(tag, b"group_of was written", group_of, from);
+    untouched(tag, b"name_of was written", name_of, from);
+    untouched(tag, b"size_of was written", size_of, from);
+    untouched(tag, b"bits_of was written", bits_of, 4 * from);
+    untouched(tag, b"mark_of was written", mark_of, from);
 }
 
 // Areas of modules from a module on.
 pub fn modules(tag: &[u8], from: usize, chunk_of: &[u32; 128], next_of: &[u32; 128]) {
-    numbers(tag, b"chunk_of was written", chunk_of, from);
-    numbers(tag, b"next_of was written", next_of, from);
+    untouched(tag, b"chunk_of was written", chunk_of, from);
+    untouched(tag, b"next_of was written", next_of, from);
 }
 
 // Scratch that was not lent, from a place on.
 pub fn scratch(tag: &[u8], from: usize, area: &[u32; 73728]) {
-    numbers(tag, b"scratch was written", area, from);
+    untouched(tag, b"scratch was written", area, from);
 }
 
 // Scratch after a call that was not refused: zeros as far as it was lent.

@@ -1,4 +1,4 @@
-// The text form of calls and answers: words, numbers, doubles and bytes read, and answers written.
+// The text form of calls and answers: lines and words read, numbers, doubles and bytes as words, and answers written.
 #![tactic(auto)]
 
 pub mod doubles;
@@ -6,4 +6,6 @@ pub mod entries;
 pub mod numbers;
 pub mod out;
 pub mod pairs;
+pub mod reading;
+pub mod values;
 pub mod words;

@@ -1,13 +1,7 @@
-// Numbers as words of digits.
+// Numbers as words of digits, for readers that keep a place in a text.
 ghost use Rattle.std.specs.Prelude.{◌≡◌, ◌≤◌};
 
-use crate::words;
-
-#[derive(Clone, Copy)]
-pub enum Number {
-    Is(u64),
-    Bad,
-}
+use crate::{values, words};
 
 // A number that was read, and the place past it.
 #[derive(Clone, Copy)]
@@ -26,81 +20,21 @@ pub fn bad() -> Field
     }
 }
 
-// The value of a hexadecimal digit; 16 for anything else.
-pub fn digit_of(byte: u8) -> u64 {
-    match byte {
-        b'0'..=b'9' => (byte - 48) as u64,
-        b'A'..=b'F' => (byte - 55) as u64,
-        b'a'..=b'f' => (byte - 87) as u64,
-        _ => 16,
-    }
-}
-
-// A number with a decimal digit after it, if that fits.
-fn tenfold(value: u64, digit: u64) -> Number {
-    if 9 < digit {
-        return Number::Bad;
-    }
-    if 1844674407370955161 < value {
-        return Number::Bad;
-    }
-    let tens = value * 10;
-    if 18446744073709551615 - tens < digit {
-        return Number::Bad;
-    }
-    Number::Is(tens + digit)
-}
-
-// The same of a hexadecimal digit.
-fn sixteenfold(value: u64, digit: u64) -> Number {
-    if 15 < digit {
-        return Number::Bad;
-    }
-    if 1152921504606846975 < value {
-        return Number::Bad;
-    }
-    Number::Is(value * 16 + digit)
-}
-
-fn longer(base: u64, value: u64, digit: u64) -> Number {
-    if base == 16 {
-        return sixteenfold(value, digit);
-    }
-    tenfold(value, digit)
-}
-
-// Digits in base 10 or 16.
-fn number_of(digits: &[u8], base: u64) -> Number {
-    let mut value: u64 = 0;
-    let mut i = 0;
-    while i < digits.len() {
-        let Number::Is(more) = longer(base, value, digit_of(digits[i])) else {
-            return Number::Bad;
-        };
-        value = more;
-        i = i + 1;
-    }
-    Number::Is(value)
-}
-
-fn read(line: &[u8], at: usize, base: u64) -> Field {
-    let word = words::word(line, at);
-    let digits = words::part(line, word);
-    if digits.len() == 0 {
-        return bad();
-    }
-    match number_of(digits, base) {
-        Number::Bad => bad(),
-        Number::Is(value) => Field { value, at: word.to },
+fn or_bad(value: Option<u64>, at: usize) -> Field {
+    match value {
+        Some(value) => Field { value, at },
+        None => bad(),
     }
 }
 
 pub fn decimal(line: &[u8], at: usize) -> Field {
-    read(line, at, 10)
+    let word = words::word(line, at);
+    or_bad(values::decimal(words::part(line, word)), word.to)
 }
 
 pub fn hexadecimal(line: &[u8], at: usize) -> Field {
-    read(line, at, 16)
+    let word = words::word(line, at);
+    or_bad(values::hexadecimal(words::part(line, word)), word.to)
 }
 
 // A decimal number that may not be above a limit.

@@ -1,9 +1,9 @@
-// The lines of a text and the words of a line. A place in a line that is past its end stands for a word that could not be read: nothing
-// can be read from there on.
+// The words of a text, for readers that keep a place in it. A place that is past its end stands for a word that could not be read: nothing can
+// be read from there on.
 ghost use Rattle.std.specs.Prelude.{◌≤◌, length};
 
 // A place past every line.
-pub const NOWHERE: usize = 18446744073709551615;
+pub const NOWHERE: usize = usize::MAX;
 
 // Where a word begins, and the place past it.
 #[derive(Clone, Copy)]
@@ -20,11 +20,13 @@ pub enum Stop {
     LineEnd,
 }
 
-fn stops(byte: u8, stop: Stop) -> bool {
-    match stop {
-        Stop::Word => 32 < byte,
-        Stop::Blank => byte <= 32,
-        Stop::LineEnd => byte == 10,
+impl Stop {
+    fn stands_at(self, byte: u8) -> bool {
+        match self {
+            Stop::Word => b' ' < byte,
+            Stop::Blank => byte <= b' ',
+            Stop::LineEnd => byte == b'\n',
+        }
     }
 }
 
@@ -32,14 +34,11 @@ fn stops(byte: u8, stop: Stop) -> bool {
 pub fn find(text: &[u8], at: usize, stop: Stop) -> usize
     ensures { (at ≤ result) × (at ≤ length text.now → result ≤ length text.now) }
 {
-    let mut i = at;
-    while i < text.len() {
-        if stops(text[i], stop) {
-            return i;
-        }
-        i = i + 1;
+    if text.len() < at {
+        return at;
     }
-    i
+    let found = text[at..].iter().position(|byte| stop.stands_at(*byte));
+    found.map_or(text.len(), |k| at + k)
 }
 
 // The next word; it is empty past the last.
@@ -51,36 +50,10 @@ pub fn word(line: &[u8], at: usize) -> Span {
 
 // The bytes of a word; none past the end.
 pub fn part(line: &[u8], word: Span) -> &[u8] {
-    let from = word.from;
-    let to = word.to;
-    if from <= to {
-        if to <= line.len() {
-            return &line[from..to];
-        }
-    }
-    &line[..0]
+    line.get(word.from..word.to).unwrap_or(&[])
 }
 
 // Whether a word is this one byte.
 pub fn is(word: &[u8], byte: u8) -> bool {
-    if word.len() != 1 {
-        return false;
-    }
-    word[0] == byte
-}
-
-// The byte at a place; 0 past the end.
-pub fn byte(text: &[u8], at: usize) -> u8 {
-    if at < text.len() {
-        return text[at];
-    }
-    0
-}
-
-// Whether all words were read, and could be.
-pub fn ended(line: &[u8], at: usize) -> bool {
-    if line.len() < at {
-        return false;
-    }
-    find(line, at, Stop::Word) == line.len()
+    word == [byte].as_slice()
 }
