@@ -6,20 +6,14 @@
 
 mod cases;
 
-fn read_input(input: &mut [u8; 1048576]) -> usize {
-    io::read_full(0, input)
-}
-
-fn answer_input(input: &[u8; 1048576], n: usize) {
-    cases::answer_all(textform::entries::bytes(input, n));
-}
+use buildlines::tables::prefix;
 
 fn main() {
     let mut input = [0u8; 1048576];
-    let n = read_input(&mut input);
-    if n == 1048576 {
+    let n = io::read_full(0, &mut input);
+    if n == input.len() {
         textform::out::text(b"! input\n");
         return;
     }
-    answer_input(&input, n);
+    cases::answer_all(prefix(&input, n));
 }
