@@ -8,12 +8,21 @@ mod cases;
 
 use buildlines::tables::prefix;
 
+// The array as a reference: a function that holds it and takes a part of it is checked for minutes.
+fn read_input(input: &mut [u8; 1048576]) -> usize {
+    io::read_full(0, input)
+}
+
+fn answer_input(input: &[u8; 1048576], n: usize) {
+    cases::answer_all(prefix(input, n));
+}
+
 fn main() {
     let mut input = [0u8; 1048576];
-    let n = io::read_full(0, &mut input);
-    if n == input.len() {
+    let n = read_input(&mut input);
+    if n == 1048576 {
         textform::out::text(b"! input\n");
         return;
     }
-    cases::answer_all(prefix(&input, n));
+    answer_input(&input, n);
 }
