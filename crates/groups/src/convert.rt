@@ -213,47 +213,44 @@ pub fn convert_groups_to_chunks(
     let mut set = [0u32; 4096];
     let mut matched = [0u32; 4096];
     let mut made = 0;
-    let mut i = 0;
-    while i < turns.len() {
-        let g = turns[i] as usize;
+    for turn in turns {
+        let g = *turn as usize;
         let from = g * n;
         let to = from + n;
         let own = settings[g];
-        made = made
-            + convert_group(
-                own,
-                turns[i],
-                &answers[from..to],
-                n,
-                flags,
-                sizes,
-                shares,
-                tags,
-                bits,
-                bytes,
-                offsets,
-                first,
-                dependency,
-                next,
-                order,
-                &place,
-                rank,
-                ChunkIdx(number.0 + made as u32),
-                at + made,
-                &mut closed[..n],
-                &mut marks[..n],
-                &mut followed,
-                &mut set,
-                &mut matched,
-                scratch,
-                chunk_of,
-                group_of,
-                name_of,
-                size_of,
-                bits_of,
-                mark_of,
-            );
-        i = i + 1;
+        made += convert_group(
+            own,
+            *turn,
+            &answers[from..to],
+            n,
+            flags,
+            sizes,
+            shares,
+            tags,
+            bits,
+            bytes,
+            offsets,
+            first,
+            dependency,
+            next,
+            order,
+            &place,
+            rank,
+            ChunkIdx(number.0 + made as u32),
+            at + made,
+            &mut closed[..n],
+            &mut marks[..n],
+            &mut followed,
+            &mut set,
+            &mut matched,
+            scratch,
+            chunk_of,
+            group_of,
+            name_of,
+            size_of,
+            bits_of,
+            mark_of,
+        );
     }
     made
 }
