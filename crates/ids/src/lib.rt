@@ -4,3 +4,4 @@
 pub mod offsets;
 pub mod order;
 pub mod parts;
+pub mod table;

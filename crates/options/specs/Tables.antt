@@ -6,6 +6,7 @@ use Rattle.whole.specs.Double.{to_f64}
 use Rattle.bitset.specs.Word.{bit}
 use Rattle.options.specs.declared.Options.{Options}
 use Rattle.options.specs.declared.Group.{Group}
+use Rattle.options.specs.declared.tables.Groups.{Groups}
 
 pub record GroupTables : Type 0 where
   pub given : List ℕ
@@ -17,6 +18,21 @@ pub record GroupTables : Type 0 where
   pub tags : List ℕ
   pub priority : List ℕ
   pub threshold : List Float
+
+-- what the tables of groups that are handed in hold
+abbrev pub tables_of : Groups → GroupTables
+tables_of t =
+    record {
+      given = t.given.now;
+      min_size = t.min_size.now;
+      max_size = t.max_size.now;
+      min_module_size = t.min_module_size.now;
+      max_module_size = t.max_module_size.now;
+      min_share_count = t.min_share_count.now;
+      tags = t.tags.now;
+      priority = t.priority.now;
+      threshold = t.threshold.now;
+    }
 
 -- every table has an entry for group g
 pub record HasGroup (t : GroupTables) (g : ℕ) : Type 0 where

@@ -5,6 +5,20 @@ ghost use Rattle.options.specs.Tables.{options_by, group_at, HasGroup};
 use crate::{Group, Options};
 use bitset::word::test_bit;
 
+// The tables of the groups, one entry a group each.
+#[derive(Clone, Copy)]
+pub struct Groups<'a> {
+    pub given: &'a [u8],
+    pub min_size: &'a [f64],
+    pub max_size: &'a [f64],
+    pub min_module_size: &'a [f64],
+    pub max_module_size: &'a [f64],
+    pub min_share_count: &'a [u32],
+    pub tags: &'a [u64],
+    pub priority: &'a [u32],
+    pub threshold: &'a [f64],
+}
+
 // The options that a group's byte says it has.
 #[tactic(auto, unfolding(crate::specs::Tables::options_by))]
 pub fn options_by(

@@ -8,6 +8,14 @@ ghost use Rattle.lists.specs.Stored.{stored};
 ghost use Rattle.records.specs.Ascending.{all_ascend};
 ghost use Rattle.records.specs.Bad.{bad_first, bad_record, bad_chain, bad_records, RecordTables, ChainTables};
 
+// The tables of dependency records: each module's first record, and each record's module and next.
+#[derive(Clone, Copy)]
+pub struct Records<'a> {
+    pub first: &'a [u32],
+    pub dependency: &'a [u32],
+    pub next: &'a [u32],
+}
+
 // A first record above d. All are looked at, also behind a bad one, and compared in 32 bits as they lie in the table: so several at once.
 fn bad_first(first: &[u32], n: usize, d: usize) -> bool
     requires { (n ≤ length first.now) × (d ≤ 65535) }
