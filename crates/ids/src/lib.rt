@@ -4,4 +4,3 @@
 pub mod offsets;
 pub mod order;
 pub mod parts;
-pub mod table;
