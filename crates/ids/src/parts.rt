@@ -1,5 +1,5 @@
 // The table of stable ids: one byte slice, and for each id where it begins, with the end of the last.
-ghost use Rattle.std.specs.Prelude.{◌≡◌};
+ghost use Rattle.std.specs.Prelude.{◌≡◌, ℕ, ◌<◌, get_or};
 ghost use Rattle.ids.specs.Parts.{id_at, InTable};
 
 use index::ModuleIdx;
@@ -8,6 +8,7 @@ use index::ModuleIdx;
 pub struct Ids<'a> {
     pub bytes: &'a [u8],
     pub offsets: &'a [u32],
+    ghost are_bytes: { (i : ℕ) → get_or bytes.now i 0 < 256 },
 }
 
 impl<'a> Ids<'a> {
