@@ -11,6 +11,7 @@ ghost use Rattle.capture.specs.Start.{StartReady};
 ghost use Rattle.capture.specs.Call.{bad_counts, bad_lengths, input_tests, CaptureCall};
 
 use index::ModuleIdx;
+use records::Records;
 use refusal::Refusal;
 
 // Refusal 1: a count above its limit.
@@ -21,18 +22,14 @@ fn bad_counts(n: usize, d: usize) -> bool
 }
 
 // Refusal 2: a table's length is not the one that its counts imply.
-fn bad_lengths(
-    flags: &[u8],
-    first: &[u32],
-    dependency: &[u32],
-    next: &[u32],
-    n: usize,
-    d: usize,
-) -> bool
+fn bad_lengths(flags: &[u8], records: &Records, n: usize, d: usize) -> bool
     requires { d ≤ record_limit }
-    ensures { result ≡ bad_lengths flags.now first.now dependency.now next.now n d }
+    ensures { result ≡ bad_lengths flags.now records.now.first.now records.now.dependency.now records.now.next.now n d }
 {
-    flags.len() != n || first.len() != n || dependency.len() != d + 1 || next.len() != d + 1
+    flags.len() != n
+        || records.first.len() != n
+        || records.dependency.len() != d + 1
+        || records.next.len() != d + 1
 }
 
 // Marks what a module captures: nothing if it isn't eligible, it alone with recursion off.
@@ -40,23 +37,21 @@ fn capture_from(
     from: ModuleIdx,
     recursive: bool,
     flags: &[u8],
-    first: &[u32],
-    dependency: &[u32],
-    next: &[u32],
+    records: &Records,
     marks: &mut [u8],
     queue: &mut [u32],
 )
-    requires { StartReady flags.now first.now dependency.now next.now (length flags.now) (length next.now - 1)
+    requires { StartReady flags.now records.now.first.now records.now.dependency.now records.now.next.now (length flags.now) (length records.now.next.now - 1)
         from.0 marks.old queue.old }
     ensures { Marks (Captured (record {
       n = length flags.now;
-      d = length next.now - 1;
+      d = length records.now.next.now - 1;
       recursive = recursive;
       from = from.0;
       flags = flags.now;
-      first = first.now;
-      dependency = dependency.now;
-      next = next.now;
+      first = records.now.first.now;
+      dependency = records.now.dependency.now;
+      next = records.now.next.now;
     })) (length flags.now) marks.new }
 {
     marks.fill(0);
@@ -69,16 +64,7 @@ fn capture_from(
     }
     queue[0] = from.0;
     let mut followed = [0u8; 65536];
-    walk::walk::walk(
-        flags,
-        first,
-        dependency,
-        next,
-        marks,
-        queue,
-        &mut followed,
-        1,
-    );
+    walk::walk::walk(flags, records, marks, queue, &mut followed, 1);
 }
 
 // Refuses by the first condition on the input that applies.
@@ -87,20 +73,18 @@ fn test_input(
     d: usize,
     from: ModuleIdx,
     flags: &[u8],
-    first: &[u32],
-    dependency: &[u32],
-    next: &[u32],
+    records: &Records,
 ) -> Result<(), Refusal>
     ensures { number_or_zero result ≡ first_number (input_tests n d from.0
-        flags.now first.now dependency.now next.now) }
+        flags.now records.now.first.now records.now.dependency.now records.now.next.now) }
 {
     if bad_counts(n, d) {
         return Err(Refusal::Count);
     }
-    if bad_lengths(flags, first, dependency, next, n, d) {
+    if bad_lengths(flags, records, n, d) {
         return Err(Refusal::Length);
     }
-    if records::bad_records(first, dependency, next, n, d) {
+    if records::bad_records(records, n, d) {
         return Err(Refusal::Record);
     }
     if flags::bad_flags(flags, n) {
@@ -119,9 +103,7 @@ pub fn add_module_and_dependencies_to_group_recursively(
     recursive: bool,
     from: ModuleIdx,
     flags: &[u8],
-    first: &[u32],
-    dependency: &[u32],
-    next: &[u32],
+    records: &Records,
     marks: &mut [u8],
     scratch: &mut [u32],
 ) -> Result<(), Refusal>
@@ -131,9 +113,9 @@ pub fn add_module_and_dependencies_to_group_recursively(
       recursive = recursive;
       from = from.0;
       flags = flags.now;
-      first = first.now;
-      dependency = dependency.now;
-      next = next.now;
+      first = records.now.first.now;
+      dependency = records.now.dependency.now;
+      next = records.now.next.now;
     }) result (record {
       marks = marks.old;
       scratch = scratch.old;
@@ -142,23 +124,14 @@ pub fn add_module_and_dependencies_to_group_recursively(
       scratch = scratch.new;
     }) }
 {
-    test_input(n, d, from, flags, first, dependency, next)?;
+    test_input(n, d, from, flags, records)?;
     if marks.len() < n {
         return Err(Refusal::Area);
     }
     if scratch.len() < n {
         return Err(Refusal::Scratch);
     }
-    capture_from(
-        from,
-        recursive,
-        flags,
-        first,
-        dependency,
-        next,
-        &mut marks[..n],
-        scratch,
-    );
+    capture_from(from, recursive, flags, records, &mut marks[..n], scratch);
     scratch.fill(0);
     Ok(())
 }

@@ -11,6 +11,7 @@ ghost use Rattle.refusal.specs.Answers.{number_or_zero};
 ghost use Rattle.refusal.specs.Outcome.{first_number};
 
 use crate::{AreaLengths, GroupLengths, ModuleLengths, RecordLengths};
+use records::Records;
 use refusal::Refusal;
 
 // 1 to 3: counts, lengths and ids.
@@ -45,20 +46,18 @@ pub fn shape_number(
 pub fn tree_number(
     flags: &[u8],
     sizes: &[u64],
-    first: &[u32],
-    dependency: &[u32],
-    next: &[u32],
+    records: &Records,
     n: usize,
     d: usize,
 ) -> Result<(), Refusal>
-    requires { (length flags.now ≡ length sizes.now) × RecordTables first.now dependency.now next.now n d }
+    requires { (length flags.now ≡ length sizes.now) × RecordTables records.now.first.now records.now.dependency.now records.now.next.now n d }
     ensures { (b : Given) → HandsSizes b flags.now sizes.now
-        → HandsRecords b first.now dependency.now next.now n d → number_or_zero result ≡ first_number (tree_tests b) }
+        → HandsRecords b records.now.first.now records.now.dependency.now records.now.next.now n d → number_or_zero result ≡ first_number (tree_tests b) }
 {
     if sums::totals::bad_total(flags, sizes) {
         return Err(Refusal::Total);
     }
-    if crate::chains::bad_dependency(first, dependency, next, n, d) {
+    if crate::chains::bad_dependency(records, n, d) {
         return Err(Refusal::Record);
     }
     Ok(())

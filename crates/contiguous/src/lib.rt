@@ -5,6 +5,8 @@ ghost use Rattle.std.specs.Prelude.{◌≡◌, IfSome, cond, ◌-◌, ◌≤◌,
 ghost use Rattle.contiguous.specs.Laid.{LayReady, Laying, LayAllReady, AllLaid};
 ghost use Rattle.contiguous.specs.Jumps.{is_jump, jumps_of, worth_laying};
 
+use records::Records;
+
 // Where a chain was laid: the record that it begins with, and the first record behind it.
 #[derive(Clone, Copy)]
 struct LaidChain {
@@ -46,23 +48,29 @@ fn lay_chain(
 // Lays the chains of all modules one after the other, in the first `room` words of two tables. Answers how many of these words hold them, record 0
 // included; or 0, where chains share so many records that there is no room for each by itself.
 pub fn lay_chains(
-    first: &[u32],
-    dependency: &[u32],
-    next: &[u32],
+    records: &Records,
     to_first: &mut [u32],
     to_dependency: &mut [u32],
     to_next: &mut [u32],
     room: usize,
 ) -> usize
-    requires { LayAllReady first.now dependency.now next.now (length first.now) (length next.now - 1)
+    requires { LayAllReady records.now.first.now records.now.dependency.now records.now.next.now (length records.now.first.now) (length records.now.next.now - 1)
         to_first.old to_dependency.old to_next.old room }
-    ensures { AllLaid first.now dependency.now next.now (length first.now)
-        (length next.now - 1) result to_first.new to_dependency.new to_next.new }
+    ensures { AllLaid records.now.first.now records.now.dependency.now records.now.next.now (length records.now.first.now)
+        (length records.now.next.now - 1) result to_first.new to_dependency.new to_next.new }
 {
     let mut at = 1;
-    for (m, from) in first.iter().enumerate() {
+    for (m, from) in records.first.iter().enumerate() {
         let from = *from as usize;
-        let Some(laid) = lay_chain(dependency, next, to_dependency, to_next, from, at, room) else {
+        let Some(laid) = lay_chain(
+            records.dependency,
+            records.next,
+            to_dependency,
+            to_next,
+            from,
+            at,
+            room,
+        ) else {
             return 0;
         };
         to_first[m] = laid.first as u32;

@@ -11,6 +11,7 @@ pub mod tabled;
 ghost use Rattle.std.specs.Prelude.{◌≡◌};
 ghost use Rattle.cut.specs.Call.{cut_call, outcome_of};
 
+use ids::parts::Ids;
 use refusal::Refusal;
 
 // A cut: the index of the first module on the right, and the sizes of the two sides.
@@ -32,24 +33,23 @@ pub enum Cut {
 // The public call: ids and sizes in the order given.
 pub fn pick_relevance_split_index(
     n: usize,
-    bytes: &[u8],
-    offsets: &[u32],
+    ids: &Ids,
     sizes: &[u64],
     minimum: f64,
     maximum: f64,
 ) -> Result<Cut, Refusal>
-    ensures { outcome_of result ≡ cut_call n bytes.now offsets.now sizes.now minimum maximum }
+    ensures { outcome_of result ≡ cut_call n ids.now.bytes.now ids.now.offsets.now sizes.now minimum maximum }
 {
     if refusal::MODULE_LIMIT < n {
         return Err(Refusal::Count);
     }
-    if offsets.len() != n + 1 {
+    if ids.offsets.len() != n + 1 {
         return Err(Refusal::Length);
     }
     if sizes.len() != n {
         return Err(Refusal::Length);
     }
-    if ids::offsets::bad_offsets(ids::offsets::ID_LIMIT, bytes.len(), offsets) {
+    if ids::offsets::bad_offsets(ids::offsets::ID_LIMIT, ids.bytes.len(), ids.offsets) {
         return Err(Refusal::Id);
     }
     if whole::total_exceeds(sizes) {
@@ -61,5 +61,5 @@ pub fn pick_relevance_split_index(
     if limit::is_nan(maximum) {
         return Err(Refusal::Nan);
     }
-    Ok(given::pick_given(bytes, offsets, sizes, minimum, maximum))
+    Ok(given::pick_given(ids, sizes, minimum, maximum))
 }

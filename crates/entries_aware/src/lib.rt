@@ -6,9 +6,12 @@ ghost use Rattle.grouping.specs.Subgroups.{divided_items};
 ghost use Rattle.settling.specs.Traversal.{in_turn};
 ghost use Rattle.running.specs.Turns.{SetTurning, SetTurned};
 ghost use Rattle.entries_aware.specs.Divided.{DividedReady};
+ghost use Rattle.emitting.specs.Emitted.{work, SameAreas};
 
 use bitset::table::row;
+use emitting::ChunkAreas;
 use emitting::emit::Head;
+use ids::parts::Ids;
 use index::ChunkIdx;
 use items::convert::{Limits, convert_item_to_chunks};
 use matching::matched::run_end;
@@ -26,53 +29,27 @@ fn convert_divided(
     kind_bits: &[u64],
     sizes: &[u64],
     bits: &[u64],
-    bytes: &[u8],
-    offsets: &[u32],
+    ids: &Ids,
     rank: &[u32],
     number: ChunkIdx,
     at: usize,
     members: &mut [u32],
-    chunk_of: &mut [u32],
-    group_of: &mut [u32],
-    name_of: &mut [u32],
-    size_of: &mut [f64],
-    bits_of: &mut [u64],
-    mark_of: &mut [u8],
+    areas: &mut ChunkAreas,
 ) -> usize
     requires { DividedReady (record {
-      bytes = bytes.now;
-      offsets = offsets.now;
+      bytes = ids.now.bytes.now;
+      offsets = ids.now.offsets.now;
       sizes = sizes.now;
       rank = rank.now;
-    }) bits.now number.0 at (record {
-      chunk_of = chunk_of.old;
-      group_of = group_of.old;
-      name_of = name_of.old;
-      size_of = size_of.old;
-      bits_of = bits_of.old;
-      mark_of = mark_of.old;
-    }) set.now settings.threshold kind_bits.now divided.now members.old }
-    ensures { SetTurned (record {
-      bytes = bytes.now;
-      offsets = offsets.now;
+    }) bits.now number.0 at (work areas.old) set.now settings.threshold kind_bits.now divided.now members.old }
+    ensures emitted { SetTurned (record {
+      bytes = ids.now.bytes.now;
+      offsets = ids.now.offsets.now;
       sizes = sizes.now;
       rank = rank.now;
     }) bits.now set.now
-        (λ tree places. in_turn tree (divided_items settings group name tree places)) number.0 at result (record {
-          chunk_of = chunk_of.old;
-          group_of = group_of.old;
-          name_of = name_of.old;
-          size_of = size_of.old;
-          bits_of = bits_of.old;
-          mark_of = mark_of.old;
-        }) (record {
-          chunk_of = chunk_of.new;
-          group_of = group_of.new;
-          name_of = name_of.new;
-          size_of = size_of.new;
-          bits_of = bits_of.new;
-          mark_of = mark_of.new;
-        }) }
+        (λ tree places. in_turn tree (divided_items settings group name tree places)) number.0 at result (work areas.old) (work areas.new) }
+    ensures same { SameAreas areas.old areas.new }
 {
     let mut list = [0u32; 4096];
     let mut made = 0;
@@ -99,18 +76,12 @@ fn convert_divided(
             &list[..count],
             sizes,
             bits,
-            bytes,
-            offsets,
+            ids,
             rank,
             ChunkIdx(number.0 + made as u32),
             at + made,
             members,
-            chunk_of,
-            group_of,
-            name_of,
-            size_of,
-            bits_of,
-            mark_of,
+            areas,
         );
         made += more;
         from = to;
@@ -127,56 +98,30 @@ fn convert_within<const N: usize, const WORDS: usize>(
     n: usize,
     sizes: &[u64],
     bits: &[u64],
-    bytes: &[u8],
-    offsets: &[u32],
+    ids: &Ids,
     rank: &[u32],
     number: ChunkIdx,
     at: usize,
     scratch: &mut [u32],
-    chunk_of: &mut [u32],
-    group_of: &mut [u32],
-    name_of: &mut [u32],
-    size_of: &mut [f64],
-    bits_of: &mut [u64],
-    mark_of: &mut [u8],
+    areas: &mut ChunkAreas,
 ) -> usize
     requires set_turning { SetTurning (record {
-      bytes = bytes.now;
-      offsets = offsets.now;
+      bytes = ids.now.bytes.now;
+      offsets = ids.now.offsets.now;
       sizes = sizes.now;
       rank = rank.now;
-    }) bits.now number.0 at (record {
-      chunk_of = chunk_of.old;
-      group_of = group_of.old;
-      name_of = name_of.old;
-      size_of = size_of.old;
-      bits_of = bits_of.old;
-      mark_of = mark_of.old;
-    }) set.now }
+    }) bits.now number.0 at (work areas.old) set.now }
     requires tables { (length set.now ≤ N) × (N ≤ 4096) × (WORDS ≡ 4 * N) }
     requires set_len_bound { (length set.now ≤ n) × (n ≤ 4096) × (3 * n ≤ length scratch.old) }
     ensures set_turned { SetTurned (record {
-      bytes = bytes.now;
-      offsets = offsets.now;
+      bytes = ids.now.bytes.now;
+      offsets = ids.now.offsets.now;
       sizes = sizes.now;
       rank = rank.now;
     }) bits.now set.now
-        (λ tree places. in_turn tree (divided_items settings group name tree places)) number.0 at result (record {
-          chunk_of = chunk_of.old;
-          group_of = group_of.old;
-          name_of = name_of.old;
-          size_of = size_of.old;
-          bits_of = bits_of.old;
-          mark_of = mark_of.old;
-        }) (record {
-          chunk_of = chunk_of.new;
-          group_of = group_of.new;
-          name_of = name_of.new;
-          size_of = size_of.new;
-          bits_of = bits_of.new;
-          mark_of = mark_of.new;
-        }) }
+        (λ tree places. in_turn tree (divided_items settings group name tree places)) number.0 at result (work areas.old) (work areas.new) }
     ensures scratch_len_unchanged { length scratch.new ≡ length scratch.old }
+    ensures same { SameAreas areas.old areas.new }
 {
     let count = set.len();
     let mut kind_bits = [0u64; WORDS];
@@ -200,18 +145,12 @@ fn convert_within<const N: usize, const WORDS: usize>(
         &kind_bits,
         sizes,
         bits,
-        bytes,
-        offsets,
+        ids,
         rank,
         number,
         at,
         &mut scratch[n..end],
-        chunk_of,
-        group_of,
-        name_of,
-        size_of,
-        bits_of,
-        mark_of,
+        areas,
     )
 }
 
@@ -225,64 +164,36 @@ pub fn convert_subgroups(
     n: usize,
     sizes: &[u64],
     bits: &[u64],
-    bytes: &[u8],
-    offsets: &[u32],
+    ids: &Ids,
     rank: &[u32],
     number: ChunkIdx,
     at: usize,
     scratch: &mut [u32],
-    chunk_of: &mut [u32],
-    group_of: &mut [u32],
-    name_of: &mut [u32],
-    size_of: &mut [f64],
-    bits_of: &mut [u64],
-    mark_of: &mut [u8],
+    areas: &mut ChunkAreas,
 ) -> usize
     requires set_turning { SetTurning (record {
-      bytes = bytes.now;
-      offsets = offsets.now;
+      bytes = ids.now.bytes.now;
+      offsets = ids.now.offsets.now;
       sizes = sizes.now;
       rank = rank.now;
-    }) bits.now number.0 at (record {
-      chunk_of = chunk_of.old;
-      group_of = group_of.old;
-      name_of = name_of.old;
-      size_of = size_of.old;
-      bits_of = bits_of.old;
-      mark_of = mark_of.old;
-    }) set.now }
+    }) bits.now number.0 at (work areas.old) set.now }
     requires set_len_bound { (length set.now ≤ n) × (n ≤ 4096) × (3 * n ≤ length scratch.old) }
     ensures set_turned { SetTurned (record {
-      bytes = bytes.now;
-      offsets = offsets.now;
+      bytes = ids.now.bytes.now;
+      offsets = ids.now.offsets.now;
       sizes = sizes.now;
       rank = rank.now;
     }) bits.now set.now
-        (λ tree places. in_turn tree (divided_items settings group name tree places)) number.0 at result (record {
-          chunk_of = chunk_of.old;
-          group_of = group_of.old;
-          name_of = name_of.old;
-          size_of = size_of.old;
-          bits_of = bits_of.old;
-          mark_of = mark_of.old;
-        }) (record {
-          chunk_of = chunk_of.new;
-          group_of = group_of.new;
-          name_of = name_of.new;
-          size_of = size_of.new;
-          bits_of = bits_of.new;
-          mark_of = mark_of.new;
-        }) }
+        (λ tree places. in_turn tree (divided_items settings group name tree places)) number.0 at result (work areas.old) (work areas.new) }
     ensures scratch_len_unchanged { length scratch.new ≡ length scratch.old }
+    ensures same { SameAreas areas.old areas.new }
 {
     if set.len() <= 1024 {
         return convert_within::<1024, 4096>(
-            settings, group, name, set, n, sizes, bits, bytes, offsets, rank, number, at, scratch,
-            chunk_of, group_of, name_of, size_of, bits_of, mark_of,
+            settings, group, name, set, n, sizes, bits, ids, rank, number, at, scratch, areas,
         );
     }
     convert_within::<4096, 16384>(
-        settings, group, name, set, n, sizes, bits, bytes, offsets, rank, number, at, scratch,
-        chunk_of, group_of, name_of, size_of, bits_of, mark_of,
+        settings, group, name, set, n, sizes, bits, ids, rank, number, at, scratch, areas,
     )
 }

@@ -1,6 +1,6 @@
 // The groups as flat tables: an option that a group has, and a group read from its entries.
 ghost use Rattle.std.specs.Prelude.{◌≡◌};
-ghost use Rattle.options.specs.Tables.{options_by, group_at, HasGroup};
+ghost use Rattle.options.specs.Tables.{options_by, group_at, HasGroup, tables_of};
 
 use crate::{Group, Options};
 use bitset::word::test_bit;
@@ -42,54 +42,23 @@ pub fn options_by(
 }
 
 // Group g.
-pub fn group_at(
-    given: &[u8],
-    min_size: &[f64],
-    max_size: &[f64],
-    min_module_size: &[f64],
-    max_module_size: &[f64],
-    min_share_count: &[u32],
-    tags: &[u64],
-    priority: &[u32],
-    threshold: &[f64],
-    g: usize,
-) -> Group
-    requires { HasGroup (record {
-      given = given.now;
-      min_size = min_size.now;
-      max_size = max_size.now;
-      min_module_size = min_module_size.now;
-      max_module_size = max_module_size.now;
-      min_share_count = min_share_count.now;
-      tags = tags.now;
-      priority = priority.now;
-      threshold = threshold.now;
-    }) g }
-    ensures { result ≡ group_at (record {
-      given = given.now;
-      min_size = min_size.now;
-      max_size = max_size.now;
-      min_module_size = min_module_size.now;
-      max_module_size = max_module_size.now;
-      min_share_count = min_share_count.now;
-      tags = tags.now;
-      priority = priority.now;
-      threshold = threshold.now;
-    }) g }
+pub fn group_at(groups: &Groups, g: usize) -> Group
+    requires { HasGroup (tables_of groups.now) g }
+    ensures { result ≡ group_at (tables_of groups.now) g }
 {
-    let has = given[g] as u64;
+    let has = groups.given[g] as u64;
     Group {
         options: options_by(
             has,
-            min_size[g],
-            max_size[g],
-            min_module_size[g],
-            max_module_size[g],
-            min_share_count[g],
+            groups.min_size[g],
+            groups.max_size[g],
+            groups.min_module_size[g],
+            groups.max_module_size[g],
+            groups.min_share_count[g],
         ),
-        tags: tags[g],
-        priority: priority[g],
+        tags: groups.tags[g],
+        priority: groups.priority[g],
         entries_aware: test_bit(has, 7),
-        threshold: threshold[g],
+        threshold: groups.threshold[g],
     }
 }

@@ -106,11 +106,11 @@ fn any_bad_chain(first: &[u32], next: &[u32], n: usize, d: usize) -> bool
 }
 
 // Refusal 7. A chain whose records ascend ends, so chains are gone along only where some record does not ascend.
-pub fn bad_records(first: &[u32], dependency: &[u32], next: &[u32], n: usize, d: usize) -> bool
-    requires { RecordTables first.now dependency.now next.now n d }
-    ensures { result ≡ bad_records first.now dependency.now next.now n d }
+pub fn bad_records(records: &Records, n: usize, d: usize) -> bool
+    requires { RecordTables records.now.first.now records.now.dependency.now records.now.next.now n d }
+    ensures { result ≡ bad_records records.now.first.now records.now.dependency.now records.now.next.now n d }
 {
-    bad_first(first, n, d)
-        || bad_record(dependency, next, n, d)
-        || (!all_ascend(next, d) && any_bad_chain(first, next, n, d))
+    bad_first(records.first, n, d)
+        || bad_record(records.dependency, records.next, n, d)
+        || (!all_ascend(records.next, d) && any_bad_chain(records.first, records.next, n, d))
 }

@@ -20,41 +20,41 @@ returns-in_err-test_input c =
       recursive = c.args.recursive;
       from = c.args.from.0;
       flags = c.args.flags.now;
-      first = c.args.first.now;
-      dependency = c.args.dependency.now;
-      next = c.args.next.now;
+      first = c.args.records.now.first.now;
+      dependency = c.args.records.now.dependency.now;
+      next = c.args.records.now.next.now;
     })) ((record { marks = c.args.marks.now; scratch = c.args.scratch.now })) _ c.in_err-test_input.ensures)
 
 pub returns-then-marks-n : goal.returns-then-marks-n
 returns-then-marks-n c =
-    let passed : InputPassed c.args.n c.args.d c.args.from.0 c.args.flags.now c.args.first.now c.args.dependency.now c.args.next.now =
+    let passed : InputPassed c.args.n c.args.d c.args.from.0 c.args.flags.now c.args.records.now.first.now c.args.records.now.dependency.now c.args.records.now.next.now =
     let s = c.args in
-    input_passed s.n s.d s.from.0 s.flags.now s.first.now s.dependency.now s.next.now c.in_ok-test_input.ensures in
+    input_passed s.n s.d s.from.0 s.flags.now s.records.now.first.now s.records.now.dependency.now s.records.now.next.now c.in_ok-test_input.ensures in
     refuses_12 ((record {
       n = c.args.n;
       d = c.args.d;
       recursive = c.args.recursive;
       from = c.args.from.0;
       flags = c.args.flags.now;
-      first = c.args.first.now;
-      dependency = c.args.dependency.now;
-      next = c.args.next.now;
+      first = c.args.records.now.first.now;
+      dependency = c.args.records.now.dependency.now;
+      next = c.args.records.now.next.now;
     })) ((record { marks = c.args.marks.now; scratch = c.args.scratch.now })) (passed) (lt-ltb (length c.args.marks.now) c.args.n (omega arith))
 
 pub returns-then-scratch-n : goal.returns-then-scratch-n
 returns-then-scratch-n c =
-    let passed : InputPassed c.args.n c.args.d c.args.from.0 c.args.flags.now c.args.first.now c.args.dependency.now c.args.next.now =
+    let passed : InputPassed c.args.n c.args.d c.args.from.0 c.args.flags.now c.args.records.now.first.now c.args.records.now.dependency.now c.args.records.now.next.now =
     let s = c.args in
-    input_passed s.n s.d s.from.0 s.flags.now s.first.now s.dependency.now s.next.now c.in_ok-test_input.ensures in
+    input_passed s.n s.d s.from.0 s.flags.now s.records.now.first.now s.records.now.dependency.now s.records.now.next.now c.in_ok-test_input.ensures in
     refuses_13 ((record {
       n = c.args.n;
       d = c.args.d;
       recursive = c.args.recursive;
       from = c.args.from.0;
       flags = c.args.flags.now;
-      first = c.args.first.now;
-      dependency = c.args.dependency.now;
-      next = c.args.next.now;
+      first = c.args.records.now.first.now;
+      dependency = c.args.records.now.dependency.now;
+      next = c.args.records.now.next.now;
     })) ((record { marks = c.args.marks.now; scratch = c.args.scratch.now })) (passed) (le-ltb (length c.args.marks.now) c.args.n (omega arith)) (lt-ltb (length c.args.scratch.now) c.args.n (omega arith))
 
 pub slice_bounds-capture_from-end-2 : goal.slice_bounds-capture_from-end-2
@@ -62,9 +62,9 @@ slice_bounds-capture_from-end-2 c = sym (length-take-le c.args.n c.args.marks.no
 
 pub capture_from-requires : goal.capture_from-requires
 capture_from-requires c =
-    let passed : InputPassed c.args.n c.args.d c.args.from.0 c.args.flags.now c.args.first.now c.args.dependency.now c.args.next.now =
+    let passed : InputPassed c.args.n c.args.d c.args.from.0 c.args.flags.now c.args.records.now.first.now c.args.records.now.dependency.now c.args.records.now.next.now =
     let s = c.args in
-    input_passed s.n s.d s.from.0 s.flags.now s.first.now s.dependency.now s.next.now c.in_ok-test_input.ensures in
+    input_passed s.n s.d s.from.0 s.flags.now s.records.now.first.now s.records.now.dependency.now s.records.now.next.now c.in_ok-test_input.ensures in
     let p = passed in
     let part = length-take-le c.args.n c.args.marks.now (omega arith) in
     start_ready ((record {
@@ -73,9 +73,9 @@ capture_from-requires c =
       recursive = c.args.recursive;
       from = c.args.from.0;
       flags = c.args.flags.now;
-      first = c.args.first.now;
-      dependency = c.args.dependency.now;
-      next = c.args.next.now;
+      first = c.args.records.now.first.now;
+      dependency = c.args.records.now.dependency.now;
+      next = c.args.records.now.next.now;
     })) p.counts p.lengths p.records (leb-false c.args.n c.args.from.0 p.start_module) _ c.args.scratch.now part (omega arith)
 
 pub shape_of-marks : goal.shape_of-marks
@@ -86,9 +86,9 @@ shape_of-scratch c = c.fill.auto.self ∙ c.capture_from.auto.queue
 
 pub returns : goal.returns
 returns c =
-    let passed : InputPassed c.args.n c.args.d c.args.from.0 c.args.flags.now c.args.first.now c.args.dependency.now c.args.next.now =
+    let passed : InputPassed c.args.n c.args.d c.args.from.0 c.args.flags.now c.args.records.now.first.now c.args.records.now.dependency.now c.args.records.now.next.now =
     let s = c.args in
-    input_passed s.n s.d s.from.0 s.flags.now s.first.now s.dependency.now s.next.now c.in_ok-test_input.ensures in
+    input_passed s.n s.d s.from.0 s.flags.now s.records.now.first.now s.records.now.dependency.now s.records.now.next.now c.in_ok-test_input.ensures in
     let f = c.capture_from in
     let p = passed in
     answers ((record {
@@ -97,9 +97,9 @@ returns c =
       recursive = c.args.recursive;
       from = c.args.from.0;
       flags = c.args.flags.now;
-      first = c.args.first.now;
-      dependency = c.args.dependency.now;
-      next = c.args.next.now;
+      first = c.args.records.now.first.now;
+      dependency = c.args.records.now.dependency.now;
+      next = c.args.records.now.next.now;
     })) ((record { marks = c.args.marks.now; scratch = c.args.scratch.now })) p (le-ltb (length c.args.marks.now) c.args.n (omega arith)) (le-ltb (length c.args.scratch.now) c.args.n (omega arith)) _
     (written ((record {
       n = c.args.n;
@@ -107,7 +107,7 @@ returns c =
       recursive = c.args.recursive;
       from = c.args.from.0;
       flags = c.args.flags.now;
-      first = c.args.first.now;
-      dependency = c.args.dependency.now;
-      next = c.args.next.now;
+      first = c.args.records.now.first.now;
+      dependency = c.args.records.now.dependency.now;
+      next = c.args.records.now.next.now;
     })) p.counts p.lengths ((record { marks = c.args.marks.now; scratch = c.args.scratch.now })) (omega arith) f.new.marks f.new.queue c.fill.new.self f.auto.marks f.ensures f.auto.queue (c.fill.ensures.after (λ y e. e)))

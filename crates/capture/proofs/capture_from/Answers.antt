@@ -35,7 +35,7 @@ pub returns-then-not-is_eligible_at : goal.returns-then-not-is_eligible_at
 returns-then-not-is_eligible_at c =
     let cleared = (c.fill.ensures.after (λ y e. e)) ∙ ap (λ (k : ℕ). replicate k 0) c.requires.mark_bytes in
     let off = sym c.is_eligible_at.ensures ∙ c.if-not-is_eligible_at.true in
-    capture_none (given c.args.recursive c.args.from.0 c.args.flags.now c.args.first.now c.args.dependency.now c.args.next.now) _ cleared (λ e. false≢true (sym off ∙ e))
+    capture_none (given c.args.recursive c.args.from.0 c.args.flags.now c.args.records.now.first.now c.args.records.now.dependency.now c.args.records.now.next.now) _ cleared (λ e. false≢true (sym off ∙ e))
 
 pub bounds-marks-from : goal.bounds-marks-from
 bounds-marks-from c =
@@ -60,14 +60,14 @@ pub returns : goal.returns
 returns c =
     let cleared = (c.fill.ensures.after (λ y e. e)) ∙ ap (λ (k : ℕ). replicate k 0) c.requires.mark_bytes in
     let on = c.if-not-recursive.false in
-    capture_walk (given c.args.recursive c.args.from.0 c.args.flags.now c.args.first.now c.args.dependency.now c.args.next.now) _ cleared c.requires.start_in _ on c.walk.ensures.walked.marked
+    capture_walk (given c.args.recursive c.args.from.0 c.args.flags.now c.args.records.now.first.now c.args.records.now.dependency.now c.args.records.now.next.now) _ cleared c.requires.start_in _ on c.walk.ensures.walked.marked
 
 pub returns-then-not-recursive : goal.returns-then-not-recursive
 returns-then-not-recursive c =
     let cleared = (c.fill.ensures.after (λ y e. e)) ∙ ap (λ (k : ℕ). replicate k 0) c.requires.mark_bytes in
     let eligible-start : Eligible c.args.flags.now c.args.from.0 =
     sym c.is_eligible_at.ensures ∙ c.if-not-is_eligible_at.false in
-    capture_alone (given c.args.recursive c.args.from.0 c.args.flags.now c.args.first.now c.args.dependency.now c.args.next.now) _ cleared c.requires.start_in eligible-start c.if-not-recursive.true
+    capture_alone (given c.args.recursive c.args.from.0 c.args.flags.now c.args.records.now.first.now c.args.records.now.dependency.now c.args.records.now.next.now) _ cleared c.requires.start_in eligible-start c.if-not-recursive.true
 
 pub walk-requires : goal.walk-requires
 unfolding unfollowed
@@ -77,6 +77,6 @@ walk-requires c =
     sym c.is_eligible_at.ensures ∙ c.if-not-is_eligible_at.false in
     record {
       tables = c.requires.tables;
-      state = start_state (given c.args.recursive c.args.from.0 c.args.flags.now c.args.first.now c.args.dependency.now c.args.next.now) _ cleared c.requires.start_in eligible-start c.args.queue.now c.requires.room;
+      state = start_state (given c.args.recursive c.args.from.0 c.args.flags.now c.args.records.now.first.now c.args.records.now.dependency.now c.args.records.now.next.now) _ cleared c.requires.start_in eligible-start c.args.queue.now c.requires.room;
       clear = refl;
     }

@@ -28,38 +28,38 @@ returns-then-bad_lengths c =
 
 pub bad_records-requires : goal.bad_records-requires
 bad_records-requires c =
-    let passed-2 : bad_lengths c.args.flags.now c.args.first.now c.args.dependency.now c.args.next.now c.args.n c.args.d ≡ false =
+    let passed-2 : bad_lengths c.args.flags.now c.args.records.now.first.now c.args.records.now.dependency.now c.args.records.now.next.now c.args.n c.args.d ≡ false =
     sym c.bad_lengths.ensures ∙ c.if-bad_lengths.false in
     let passed-1 : bad_counts c.args.n c.args.d ≡ false =
     sym c.bad_counts.ensures ∙ c.if-bad_counts.false in
     let s = c.args in
-    record_tables s.flags.now s.first.now s.dependency.now s.next.now s.n s.d (passed-2) (passed-1)
+    record_tables s.flags.now s.records.now.first.now s.records.now.dependency.now s.records.now.next.now s.n s.d (passed-2) (passed-1)
 
 pub returns-then-bad_records : goal.returns-then-bad_records
 unfolding input_tests
 returns-then-bad_records c =
     let passed-1 : bad_counts c.args.n c.args.d ≡ false =
     sym c.bad_counts.ensures ∙ c.if-bad_counts.false in
-    let passed-2 : bad_lengths c.args.flags.now c.args.first.now c.args.dependency.now c.args.next.now c.args.n c.args.d ≡ false =
+    let passed-2 : bad_lengths c.args.flags.now c.args.records.now.first.now c.args.records.now.dependency.now c.args.records.now.next.now c.args.n c.args.d ≡ false =
     sym c.bad_lengths.ensures ∙ c.if-bad_lengths.false in
     number (passes (passed-1) (passes (passed-2)
     (applies (sym c.bad_records.ensures ∙ c.if-bad_records.true))))
 
 pub bad_flags-requires : goal.bad_flags-requires
 bad_flags-requires c =
-    let passed-2 : bad_lengths c.args.flags.now c.args.first.now c.args.dependency.now c.args.next.now c.args.n c.args.d ≡ false =
+    let passed-2 : bad_lengths c.args.flags.now c.args.records.now.first.now c.args.records.now.dependency.now c.args.records.now.next.now c.args.n c.args.d ≡ false =
     sym c.bad_lengths.ensures ∙ c.if-bad_lengths.false in
     let s = c.args in
-    omega (arith, flag_lengths s.flags.now s.first.now s.dependency.now s.next.now s.n s.d (passed-2))
+    omega (arith, flag_lengths s.flags.now s.records.now.first.now s.records.now.dependency.now s.records.now.next.now s.n s.d (passed-2))
 
 pub returns-then-bad_flags : goal.returns-then-bad_flags
 unfolding input_tests
 returns-then-bad_flags c =
     let passed-1 : bad_counts c.args.n c.args.d ≡ false =
     sym c.bad_counts.ensures ∙ c.if-bad_counts.false in
-    let passed-2 : bad_lengths c.args.flags.now c.args.first.now c.args.dependency.now c.args.next.now c.args.n c.args.d ≡ false =
+    let passed-2 : bad_lengths c.args.flags.now c.args.records.now.first.now c.args.records.now.dependency.now c.args.records.now.next.now c.args.n c.args.d ≡ false =
     sym c.bad_lengths.ensures ∙ c.if-bad_lengths.false in
-    let passed-7 : bad_records c.args.first.now c.args.dependency.now c.args.next.now c.args.n c.args.d ≡ false =
+    let passed-7 : bad_records c.args.records.now.first.now c.args.records.now.dependency.now c.args.records.now.next.now c.args.n c.args.d ≡ false =
     sym c.bad_records.ensures ∙ c.if-bad_records.false in
     number (passes (passed-1) (passes (passed-2)
     (passes (passed-7) (applies (sym c.bad_flags.ensures ∙ c.if-bad_flags.true)))))
@@ -69,9 +69,9 @@ unfolding input_tests
 returns-then-n-from c =
     let passed-1 : bad_counts c.args.n c.args.d ≡ false =
     sym c.bad_counts.ensures ∙ c.if-bad_counts.false in
-    let passed-2 : bad_lengths c.args.flags.now c.args.first.now c.args.dependency.now c.args.next.now c.args.n c.args.d ≡ false =
+    let passed-2 : bad_lengths c.args.flags.now c.args.records.now.first.now c.args.records.now.dependency.now c.args.records.now.next.now c.args.n c.args.d ≡ false =
     sym c.bad_lengths.ensures ∙ c.if-bad_lengths.false in
-    let passed-7 : bad_records c.args.first.now c.args.dependency.now c.args.next.now c.args.n c.args.d ≡ false =
+    let passed-7 : bad_records c.args.records.now.first.now c.args.records.now.dependency.now c.args.records.now.next.now c.args.n c.args.d ≡ false =
     sym c.bad_records.ensures ∙ c.if-bad_records.false in
     let s = c.args in
     number (passes (passed-1)
@@ -85,9 +85,9 @@ unfolding input_tests
 returns c =
     let passed-1 : bad_counts c.args.n c.args.d ≡ false =
     sym c.bad_counts.ensures ∙ c.if-bad_counts.false in
-    let passed-2 : bad_lengths c.args.flags.now c.args.first.now c.args.dependency.now c.args.next.now c.args.n c.args.d ≡ false =
+    let passed-2 : bad_lengths c.args.flags.now c.args.records.now.first.now c.args.records.now.dependency.now c.args.records.now.next.now c.args.n c.args.d ≡ false =
     sym c.bad_lengths.ensures ∙ c.if-bad_lengths.false in
-    let passed-7 : bad_records c.args.first.now c.args.dependency.now c.args.next.now c.args.n c.args.d ≡ false =
+    let passed-7 : bad_records c.args.records.now.first.now c.args.records.now.dependency.now c.args.records.now.next.now c.args.n c.args.d ≡ false =
     sym c.bad_records.ensures ∙ c.if-bad_records.false in
     let s = c.args in
     no_number (passes (passed-1)

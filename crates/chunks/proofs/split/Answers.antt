@@ -39,8 +39,8 @@ any =
 pub test_state-requires : goal.test_state-requires
 test_state-requires c = passed_answers _ any _ (tested c.args.on_entry c.in_ok-count.ensures)
 
-pub returns-in_err-test_state : goal.returns-in_err-test_state
-returns-in_err-test_state c =
+pub returns-in_err-test_state-clause-answered : goal.returns-in_err-test_state-clause-answered
+returns-in_err-test_state-clause-answered c =
     let r = c.from_residual-in_err-test_state in
     let p = err_from_is_err_and r.result r.ensures.1 in
     rw (p.1, p.2)
@@ -80,13 +80,13 @@ run_tested-made-requires c =
       words = refl;
     }))
 
-pub returns-in_err-count : goal.returns-in_err-count
-returns-in_err-count c =
+pub returns-in_err-count-clause-answered : goal.returns-in_err-count-clause-answered
+returns-in_err-count-clause-answered c =
     let p = err_from_is_err_and c.from_residual.result c.from_residual.ensures.1 in
     rw (p.1, p.2) (input_refused _ _ _ (tested c.args.on_entry c.in_err-count.ensures))
 
-pub returns : goal.returns
-returns c =
+pub returns-clause-answered : goal.returns-clause-answered
+returns-clause-answered c =
     let t = tested c.args.on_entry c.in_ok-count.ensures in
     answers _ _ _ t
     (c.in_ok-test_state.ensures _ _
@@ -95,4 +95,4 @@ returns c =
       count = refl;
       areas = refl;
       words = refl;
-    })) c.run_tested-made.result _ (c.run_tested-made.ensures.of_build _ (input_fits _ any _ t))
+    })) c.run_tested-made.result _ (c.run_tested-made.ensures.written.of_build _ (input_fits _ any _ t))

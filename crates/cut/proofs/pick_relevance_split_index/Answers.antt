@@ -30,7 +30,7 @@ returns-then-bad_offsets c =
 
 pub returns-then-total_exceeds : goal.returns-then-total_exceeds
 returns-then-total_exceeds c =
-    let passed : let a = c.args in Passed a.n a.bytes.now a.offsets.now a.sizes.now =
+    let passed : let a = c.args in Passed a.n a.ids.now.bytes.now a.ids.now.offsets.now a.sizes.now =
     record {
       few = c.if-n-gt-MODULE_LIMIT.false;
       all_offsets = c.if-offsets-n.false;
@@ -41,7 +41,7 @@ returns-then-total_exceeds c =
 
 pub returns-then-is_nan : goal.returns-then-is_nan
 returns-then-is_nan c =
-    let passed : let a = c.args in Passed a.n a.bytes.now a.offsets.now a.sizes.now =
+    let passed : let a = c.args in Passed a.n a.ids.now.bytes.now a.ids.now.offsets.now a.sizes.now =
     record {
       few = c.if-n-gt-MODULE_LIMIT.false;
       all_offsets = c.if-offsets-n.false;
@@ -54,7 +54,7 @@ returns-then-is_nan c =
 
 pub returns-then-is_nan-2 : goal.returns-then-is_nan-2
 returns-then-is_nan-2 c =
-    let passed : let a = c.args in Passed a.n a.bytes.now a.offsets.now a.sizes.now =
+    let passed : let a = c.args in Passed a.n a.ids.now.bytes.now a.ids.now.offsets.now a.sizes.now =
     record {
       few = c.if-n-gt-MODULE_LIMIT.false;
       all_offsets = c.if-offsets-n.false;
@@ -68,7 +68,7 @@ returns-then-is_nan-2 c =
 
 pub pick_given-requires : goal.pick_given-requires
 pick_given-requires c =
-    let passed : let a = c.args in Passed a.n a.bytes.now a.offsets.now a.sizes.now =
+    let passed : let a = c.args in Passed a.n a.ids.now.bytes.now a.ids.now.offsets.now a.sizes.now =
     record {
       few = c.if-n-gt-MODULE_LIMIT.false;
       all_offsets = c.if-offsets-n.false;
@@ -77,14 +77,14 @@ pick_given-requires c =
     } in
     let small : total_exceeds c.args.sizes.now ≡ false =
     sym c.total_exceeds.ensures ∙ c.if-total_exceeds.false in
-    let all-passed : let a = c.args in Accepted a.n a.bytes.now a.offsets.now a.sizes.now a.minimum a.maximum =
+    let all-passed : let a = c.args in Accepted a.n a.ids.now.bytes.now a.ids.now.offsets.now a.sizes.now a.minimum a.maximum =
     record {
       tables = passed;
       small = small;
       minimum_given = sym c.is_nan.ensures ∙ c.if-is_nan.false;
       maximum_given = sym c.is_nan-2.ensures ∙ c.if-is_nan-2.false;
     } in
-    let given : let a = c.args in GivenOrder a.bytes.now a.offsets.now a.sizes.now =
+    let given : let a = c.args in GivenOrder a.ids.now.bytes.now a.ids.now.offsets.now a.sizes.now =
     let p = all-passed in
     record {
       few = omega (arith, p.tables.few, p.tables.all_sizes);
@@ -96,7 +96,7 @@ pick_given-requires c =
 
 pub returns : goal.returns
 returns c =
-    let passed : let a = c.args in Passed a.n a.bytes.now a.offsets.now a.sizes.now =
+    let passed : let a = c.args in Passed a.n a.ids.now.bytes.now a.ids.now.offsets.now a.sizes.now =
     record {
       few = c.if-n-gt-MODULE_LIMIT.false;
       all_offsets = c.if-offsets-n.false;
@@ -105,7 +105,7 @@ returns c =
     } in
     let small : total_exceeds c.args.sizes.now ≡ false =
     sym c.total_exceeds.ensures ∙ c.if-total_exceeds.false in
-    let all-passed : let a = c.args in Accepted a.n a.bytes.now a.offsets.now a.sizes.now a.minimum a.maximum =
+    let all-passed : let a = c.args in Accepted a.n a.ids.now.bytes.now a.ids.now.offsets.now a.sizes.now a.minimum a.maximum =
     record {
       tables = passed;
       small = small;
@@ -115,5 +115,5 @@ returns c =
     let a = c.args in
     ap accepted
     (c.pick_given.ensures
-    ∙ ap (λ (n : ℕ). cut_of (ids_of n a.bytes.now a.offsets.now) a.sizes.now a.minimum a.maximum) (all-passed).tables.all_sizes)
+    ∙ ap (λ (n : ℕ). cut_of (ids_of n a.ids.now.bytes.now a.ids.now.offsets.now) a.sizes.now a.minimum a.maximum) (all-passed).tables.all_sizes)
     ∙ sym (accepts _ _ _ _ _ _ (all-passed))

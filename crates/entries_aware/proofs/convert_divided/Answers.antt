@@ -4,7 +4,7 @@ use lib.Ieee.{Float}
 use lib.ListN.{length-map}
 use lib.Seq.{length-take-le, take-append_seam}
 use Rattle.lists.specs.Packed.{key_of}
-use Rattle.emitting.specs.Emitted.{Work}
+use Rattle.emitting.specs.Emitted.{Work, work}
 use Rattle.emitting.proofs.Chunk.{SameLengths}
 use Rattle.sets.specs.Built.{start_at, starts_of}
 use Rattle.entries_aware.proofs.Runs.{runs_together, walk_none, walk_number, walk_place, walk_more, walk_all}
@@ -127,7 +127,7 @@ overflow_add-number c =
 
 pub overflow_add-at : goal.overflow_add-at
 overflow_add-at c =
-    let place-small : c.args.at + c.loop-from.made ≤ length c.loop-from.group_of =
+    let place-small : c.args.at + c.loop-from.made ≤ length c.loop-from.areas.group_of.now =
     let a = c.args in walk_place a.settings a.group a.name c.requires c.loop-from.invariant.0 in
     omega (arith, place-small, c.loop-from.invariant.0.lengths.group_of, c.well_formed.1.1.1.1.1.1.1.1.1.1.1.1.1.1.1.0)
 
@@ -161,7 +161,7 @@ overflow_add-made c =
     let m = c.convert_item_to_chunks-more in
     let n = m.new in
     let kept : SameLengths (areas n.chunk_of n.group_of n.name_of n.size_of n.bits_of n.mark_of)
-    (areas l.chunk_of l.group_of l.name_of l.size_of l.bits_of l.mark_of) =
+    (work l.areas) =
     record {
       chunk_of = m.auto.chunk_of;
       group_of = m.auto.group_of;
@@ -190,7 +190,7 @@ loop-from-preserved c =
     let m = c.convert_item_to_chunks-more in
     let n = m.new in
     let kept : SameLengths (areas n.chunk_of n.group_of n.name_of n.size_of n.bits_of n.mark_of)
-    (areas l.chunk_of l.group_of l.name_of l.size_of l.bits_of l.mark_of) =
+    (work l.areas) =
     record {
       chunk_of = m.auto.chunk_of;
       group_of = m.auto.group_of;
@@ -208,25 +208,7 @@ loop-from-preserved c =
 pub shape_of-members : goal.shape_of-members
 shape_of-members c = c.loop-from.invariant.2
 
-pub shape_of-chunk_of : goal.shape_of-chunk_of
-shape_of-chunk_of c = c.loop-from.invariant.0.lengths.chunk_of
-
-pub shape_of-group_of : goal.shape_of-group_of
-shape_of-group_of c = c.loop-from.invariant.0.lengths.group_of
-
-pub shape_of-name_of : goal.shape_of-name_of
-shape_of-name_of c = c.loop-from.invariant.0.lengths.name_of
-
-pub shape_of-size_of : goal.shape_of-size_of
-shape_of-size_of c = c.loop-from.invariant.0.lengths.size_of
-
-pub shape_of-bits_of : goal.shape_of-bits_of
-shape_of-bits_of c = c.loop-from.invariant.0.lengths.bits_of
-
-pub shape_of-mark_of : goal.shape_of-mark_of
-shape_of-mark_of c = c.loop-from.invariant.0.lengths.mark_of
-
-pub returns : goal.returns
-returns c =
+pub returns-clause-emitted : goal.returns-clause-emitted
+returns-clause-emitted c =
     let a = c.args in
     walk_all a.settings a.group a.name c.requires c.loop-from.invariant.0 c.loop-from-test.false

@@ -41,13 +41,13 @@ run-requires-2 c =
       room = p.room;
     }
 
-pub returns : goal.returns
-returns c =
+pub returns-clause-written : goal.returns-clause-written
+returns-clause-written c =
     record {
       of_build = λ b fits.
           let same =
           of_build b _ _ fits c.lay_chains-count.new.to_first
           (⊎_elim (λ none. absurd (omega arith)) (λ laid. laid) c.lay_chains-count.ensures.laid) in
           ran_same b _ _ _ _ fits.tables.passed same _ _ _ _
-          (c.run-2.ensures.of_build _ (relaid_fits b _ _ _ _ fits.tables.passed same _ _ fits));
+          (c.run-2.ensures.written.of_build _ (relaid_fits b _ _ _ _ fits.tables.passed same _ _ fits));
     }

@@ -210,24 +210,6 @@ shape_of-set c = c.loop-from.invariant.2
 pub shape_of-scratch : goal.shape_of-scratch
 shape_of-scratch c = c.loop-from.invariant.3
 
-pub shape_of-chunk_of : goal.shape_of-chunk_of
-shape_of-chunk_of c = c.loop-from.invariant.0.lengths.chunk_of
-
-pub shape_of-group_of : goal.shape_of-group_of
-shape_of-group_of c = c.loop-from.invariant.0.lengths.group_of
-
-pub shape_of-name_of : goal.shape_of-name_of
-shape_of-name_of c = c.loop-from.invariant.0.lengths.name_of
-
-pub shape_of-size_of : goal.shape_of-size_of
-shape_of-size_of c = c.loop-from.invariant.0.lengths.size_of
-
-pub shape_of-bits_of : goal.shape_of-bits_of
-shape_of-bits_of c = c.loop-from.invariant.0.lengths.bits_of
-
-pub shape_of-mark_of : goal.shape_of-mark_of
-shape_of-mark_of c = c.loop-from.invariant.0.lengths.mark_of
-
 pub returns : goal.returns
 returns c =
     let marks-kept : length c.loop-from.marks ≡ length c.args.marks.now =

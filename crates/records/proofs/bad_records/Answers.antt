@@ -15,14 +15,14 @@ any_bad_chain-requires c =
     elim c.if-bad_first.branch [
       | then-bad_first w ↦ absurd (true≢false (sym w.if-bad_first.true ∙ sym w.value-is ∙ c.if-bad_record.false))
       | else-bad_first w ↦
-          let e : bad_first s.first.now s.n s.d ≡ false = sym c.bad_first.ensures ∙ w.if-bad_first.false in
-          let f : bad_record s.dependency.now s.next.now s.n s.d ≡ false = sym w.bad_record.ensures ∙ sym w.value-is ∙ c.if-bad_record.false in
+          let e : bad_first s.records.now.first.now s.n s.d ≡ false = sym c.bad_first.ensures ∙ w.if-bad_first.false in
+          let f : bad_record s.records.now.dependency.now s.records.now.next.now s.n s.d ≡ false = sym w.bad_record.ensures ∙ sym w.value-is ∙ c.if-bad_record.false in
           record {
             few = c.requires.few;
             firsts = omega (arith, c.requires.firsts);
             nexts = c.requires.nexts;
-            first_in = first_in s.first.now s.n s.d e;
-            next_in = next_in s.dependency.now s.next.now s.n s.d f;
+            first_in = first_in s.records.now.first.now s.n s.d e;
+            next_in = next_in s.records.now.dependency.now s.records.now.next.now s.n s.d f;
           }
     ]
 
@@ -51,9 +51,9 @@ returns-else-not-all_ascend c =
     elim c.if-bad_first.branch [
       | then-bad_first w ↦ absurd (true≢false (sym w.if-bad_first.true ∙ sym w.value-is ∙ c.if-bad_record.false))
       | else-bad_first w ↦
-          let e : bad_first s.first.now s.n s.d ≡ false = sym c.bad_first.ensures ∙ w.if-bad_first.false in
-          let f : bad_record s.dependency.now s.next.now s.n s.d ≡ false = sym w.bad_record.ensures ∙ sym w.value-is ∙ c.if-bad_record.false in
-          let stays = next_in s.dependency.now s.next.now s.n s.d f in
-          let none = none_bad s.next.now s.d (sym c.all_ascend.ensures ∙ c.if-not-all_ascend.false) stays s.first.now s.n (first_in s.first.now s.n s.d e) in
+          let e : bad_first s.records.now.first.now s.n s.d ≡ false = sym c.bad_first.ensures ∙ w.if-bad_first.false in
+          let f : bad_record s.records.now.dependency.now s.records.now.next.now s.n s.d ≡ false = sym w.bad_record.ensures ∙ sym w.value-is ∙ c.if-bad_record.false in
+          let stays = next_in s.records.now.dependency.now s.records.now.next.now s.n s.d f in
+          let none = none_bad s.records.now.next.now s.d (sym c.all_ascend.ensures ∙ c.if-not-all_ascend.false) stays s.records.now.first.now s.n (first_in s.records.now.first.now s.n s.d e) in
           rw (c.if-not-all_ascend.false, e, f, none)
     ]

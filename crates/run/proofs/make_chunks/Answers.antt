@@ -39,8 +39,8 @@ convert_groups_to_chunks-requires c =
     let fresh = fresh_areas p.b _ _ c.fill.new.self p.fits.tables.modules p.room.modules (c.fill.ensures.after (λ y e. e)) in
     record { groups_turning = groups_turning p.b _ _ p.fits _ in_order _ _ _ fresh p.room p.small; n_in_bounds = p.work }
 
-pub returns : goal.returns
-returns c =
+pub returns-clause-emitted : goal.returns-clause-emitted
+returns-clause-emitted c =
     record {
       of_build = λ b fits room.
           let in_order =

@@ -17,4 +17,4 @@ invariant-loop-i l =
     (1 ≤ l.i)
     × (l.i - 1 ≤ length l.sizes - 1)
     × (l.left ≡ sum_f64 (take (l.i - 1) l.sizes))
-    × (l.best ≡ foldl (considered l.bounds) None (map (candidate_at (ids_of (length l.sizes) l.bytes l.offsets) l.sizes) (range 1 (l.i - 1))))
+    × (l.best ≡ foldl (considered l.bounds) None (map (candidate_at (ids_of (length l.sizes) l.ids.bytes.now l.ids.offsets.now) l.sizes) (range 1 (l.i - 1))))

@@ -3,7 +3,7 @@ use Prim.Native.Nat.{ℕ}
 use mathlib.Core.List.{List}
 use native.Mathlib.Omega.{arith}
 use lib.Ieee.{Float}
-use Rattle.emitting.specs.Emitted.{Work}
+use Rattle.emitting.specs.Emitted.{Work, work}
 use Rattle.emitting.proofs.Turn.{part_room, one_emitted, all_emitted}
 use Rattle.emitting.proofs.emit.emit_parts.Goals as goal
 
@@ -16,8 +16,8 @@ emit_chunk-requires c =
     let l = c.loop-j in
     let a = c.args in record {
       room = part_room a.head a.members.now a.starts.now a.sizes.now a.marks.now a.bits.now a.number.0 a.at
-          (areas a.chunk_of.now a.group_of.now a.name_of.now a.size_of.now a.bits_of.now a.mark_of.now) c.requires.parts
-          (areas l.chunk_of l.group_of l.name_of l.size_of l.bits_of l.mark_of) l.end l.j l.invariant c.loop-j-test.true;
+          (work a.areas.now) c.requires.parts
+          (work l.areas) l.end l.j l.invariant c.loop-j-test.true;
       number_bound = omega (arith, c.requires.starts_bound, c.loop-j-test.true);
     }
 
@@ -26,14 +26,14 @@ loop-j-preserved c =
     let l = c.loop-j in
     let a = c.args in
     one_emitted a.head a.members.now a.starts.now a.sizes.now a.marks.now a.bits.now a.number.0 a.at
-    (areas a.chunk_of.now a.group_of.now a.name_of.now a.size_of.now a.bits_of.now a.mark_of.now) c.requires.parts
-    (areas l.chunk_of l.group_of l.name_of l.size_of l.bits_of l.mark_of) l.end l.j l.invariant _ _
-    c.loop-j-test.true c.emit_chunk.ensures
+    (work a.areas.now) c.requires.parts
+    (work l.areas) l.end l.j l.invariant _ _
+    c.loop-j-test.true c.emit_chunk.ensures.emitted
 
-pub returns : goal.returns
-returns c =
+pub returns-clause-emitted : goal.returns-clause-emitted
+returns-clause-emitted c =
     let a = c.args in
     let l = c.loop-j in
     all_emitted a.head a.members.now a.starts.now a.sizes.now a.marks.now a.bits.now a.number.0 a.at
-    (areas a.chunk_of.now a.group_of.now a.name_of.now a.size_of.now a.bits_of.now a.mark_of.now) c.requires.parts
-    (areas l.chunk_of l.group_of l.name_of l.size_of l.bits_of l.mark_of) l.end l.j l.invariant (omega arith)
+    (work a.areas.now) c.requires.parts
+    (work l.areas) l.end l.j l.invariant (omega arith)

@@ -6,8 +6,8 @@ use Rattle.gentropi.proofs.splits.gentropi_chunks.Goals as goal
 
 pub returns-in-Err : goal.returns-in-Err
 returns-in-Err c =
-    rw c.number.ensures (chunks_exported c.options_by-options.ensures (ap outcome_of c.in-Err.is) c.split-answer.ensures)
+    rw c.number.ensures (chunks_exported c.options_by-options.ensures (ap outcome_of c.in-Err.is) c.split-answer.ensures.answered)
 
 pub returns-in-Ok : goal.returns-in-Ok
 returns-in-Ok c =
-    chunks_exported c.options_by-options.ensures (ap outcome_of c.in-Ok.is) c.split-answer.ensures
+    chunks_exported c.options_by-options.ensures (ap outcome_of c.in-Ok.is) c.split-answer.ensures.answered

@@ -49,7 +49,7 @@ loop-turn-init c =
       refl,
       length_front (replicate 4096 0) front n r.auto.self ∙ length-replicate {A = ℕ} 4096 0,
       closed_as (take_at front (drop n (replicate 4096 0)) n (ap length r.ensures.after ∙ given_flags p) ∙ r.ensures.after)
-          (closed_none c.args.flags.now c.args.first.now c.args.dependency.now c.args.next.now c.args.chunk_of.now),
+          (closed_none c.args.flags.now c.args.records.now.first.now c.args.records.now.dependency.now c.args.records.now.next.now c.args.areas.now.chunk_of.now),
     )
 
 pub overflow_mul-from : goal.overflow_mul-from

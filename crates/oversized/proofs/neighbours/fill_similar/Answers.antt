@@ -13,7 +13,7 @@ pub loop-i-preserved : goal.loop-i-preserved
 loop-i-preserved c =
     let l = c.loop-i in
     let a = c.args in
-    let f : ℕ → ℕ = λ k. alike a.bytes.now a.offsets.now (get_or a.order.now (k - 1) 0) (get_or a.order.now k 0) in (
+    let f : ℕ → ℕ = λ k. alike a.ids.now.bytes.now a.ids.now.offsets.now (get_or a.order.now (k - 1) 0) (get_or a.order.now k 0) in (
       omega arith,
       simp length-set l.invariant.1,
       one_filled 0 f 1 l.similar l.i c.similarity_between.result (omega arith) c.similarity_between.ensures l.invariant.2,

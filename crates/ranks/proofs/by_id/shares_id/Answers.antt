@@ -21,7 +21,7 @@ unfolding neighbours_tie
 returns-then-tied_at c =
     let a = c.args in
     let l = c.loop-i in
-    let tied : ℕ → Bool = tied_at a.bytes.now a.offsets.now a.list.now in
+    let tied : ℕ → Bool = tied_at a.ids.now.bytes.now a.ids.now.offsets.now a.list.now in
     sym (any_some tied (length a.list.now - 1) (l.i - 1) (omega arith) (sym c.tied_at.ensures ∙ c.if-tied_at.true))
 
 pub loop-i-preserved : goal.loop-i-preserved
@@ -29,7 +29,7 @@ unfolding any_below
 loop-i-preserved c =
     let a = c.args in
     let l = c.loop-i in
-    let e : tied_at a.bytes.now a.offsets.now a.list.now (l.i - 1) ≡ false = sym c.tied_at.ensures ∙ c.if-tied_at.false in
+    let e : tied_at a.ids.now.bytes.now a.ids.now.offsets.now a.list.now (l.i - 1) ≡ false = sym c.tied_at.ensures ∙ c.if-tied_at.false in
     let more : l.i + 1 - 1 ≡ suc (l.i - 1) = omega arith in
     (omega arith, rw (more, e) l.invariant.1)
 
@@ -39,4 +39,4 @@ returns c =
     let a = c.args in
     let l = c.loop-i in
     let e : l.i - 1 ≡ length a.list.now - 1 = omega arith in
-    sym l.invariant.1 ∙ ap (any_below (tied_at a.bytes.now a.offsets.now a.list.now)) e
+    sym l.invariant.1 ∙ ap (any_below (tied_at a.ids.now.bytes.now a.ids.now.offsets.now a.list.now)) e

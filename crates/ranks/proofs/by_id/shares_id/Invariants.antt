@@ -8,4 +8,4 @@ use Rattle.ranks.specs.ById.{tied_at}
 use Rattle.ranks.proofs.by_id.shares_id.Given as goal
 
 abbrev pub invariant-loop-i : goal.invariant-loop-i
-invariant-loop-i l = (l.i - 1 ≤ length l.list - 1) × (any_below (tied_at l.bytes l.offsets l.list) (l.i - 1) ≡ false)
+invariant-loop-i l = (l.i - 1 ≤ length l.list - 1) × (any_below (tied_at l.ids.bytes.now l.ids.offsets.now l.list) (l.i - 1) ≡ false)
