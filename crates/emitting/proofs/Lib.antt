@@ -6,3 +6,4 @@ pub mod Numbers
 pub mod RecordsRead
 pub mod Chunks
 pub mod Backwards
+pub mod SameAreas

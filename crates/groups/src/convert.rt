@@ -158,6 +158,7 @@ pub fn convert_groups_to_chunks(
         let from = g * n;
         let to = from + n;
         let own = settings[g];
+        let _room = areas.room();
         made += convert_group(
             own,
             *turn,

@@ -154,7 +154,8 @@ pub fn convert_item_to_chunks(
     ensures members_len_unchanged { length members.new ≡ length members.old }
     ensures same { SameAreas areas.old areas.new }
 {
-    let count = keep_left(list, areas.chunk_of, members);
+    let chunk_of = &mut *areas.chunk_of;
+    let count = keep_left(list, chunk_of, members);
     if count == 0 {
         return 0;
     }

@@ -114,28 +114,14 @@ fn run_laid(
             rank, on_entry, at, areas, next_of, first_of, scratch,
         );
     }
+    let laid = Records {
+        first: &to_first[..n],
+        dependency: &to_dependency[..count],
+        next: &to_next[..count],
+    };
     run(
-        settings,
-        g,
-        answers,
-        n,
-        flags,
-        sizes,
-        shares,
-        tags,
-        bits,
-        ids,
-        &to_first[..n],
-        &to_dependency[..count],
-        &to_next[..count],
-        by_order,
-        rank,
-        on_entry,
-        at,
-        areas,
-        next_of,
-        first_of,
-        scratch,
+        settings, g, answers, n, flags, sizes, shares, tags, bits, ids, &laid, by_order, rank,
+        on_entry, at, areas, next_of, first_of, scratch,
     )
 }
 

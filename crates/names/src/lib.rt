@@ -160,6 +160,7 @@ pub fn convert_names(
             followed,
             set,
         );
+        let _room = areas.room();
         made += convert_set(
             settings,
             group,
@@ -175,7 +176,8 @@ pub fn convert_names(
             scratch,
             areas,
         );
-        close_set(closing, &set[..count], areas.chunk_of, closed);
+        let chunk_of = &mut *areas.chunk_of;
+        close_set(closing, &set[..count], chunk_of, closed);
         from = to;
     }
     made

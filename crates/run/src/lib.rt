@@ -224,9 +224,10 @@ pub fn run(
         scratch,
         areas,
     );
+    let chunk_of = &mut *areas.chunk_of;
     finish(
         &order[..count],
-        areas.chunk_of,
+        chunk_of,
         on_entry,
         n,
         at,

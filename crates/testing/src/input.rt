@@ -61,18 +61,18 @@ pub fn test_input(
     })
         → InputTested b result by_order.old by_order.new rank.old rank.new }
 {
-    let modules = module_lengths(flags, sizes, orders, shares, tags, bits);
-    let records = record_lengths(ids.offsets, records);
-    let groups = group_lengths(groups);
+    let by_module = module_lengths(flags, sizes, orders, shares, tags, bits);
+    let by_record = record_lengths(ids.offsets, records);
+    let by_group = group_lengths(groups);
     shape_number(
         n,
         g,
         e,
         k,
         d,
-        modules,
-        records,
-        groups,
+        by_module,
+        by_record,
+        by_group,
         answers.len(),
         ids.bytes.len(),
         ids.offsets,

@@ -16,8 +16,8 @@ use Rattle.cut.proofs.pick_relevance_split_index.Goals as goal
 pub returns-then-n-gt-MODULE_LIMIT : goal.returns-then-n-gt-MODULE_LIMIT
 returns-then-n-gt-MODULE_LIMIT c = sym (too_many _ _ _ _ _ _ c.if-n-gt-MODULE_LIMIT.true)
 
-pub returns-then-offsets-n : goal.returns-then-offsets-n
-returns-then-offsets-n c = sym (offsets_missing _ _ _ _ _ _ c.if-n-gt-MODULE_LIMIT.false c.if-offsets-n.true)
+pub returns-then-ids-n : goal.returns-then-ids-n
+returns-then-ids-n c = sym (offsets_missing _ _ _ _ _ _ c.if-n-gt-MODULE_LIMIT.false c.if-ids-n.true)
 
 pub returns-then-sizes-n : goal.returns-then-sizes-n
 returns-then-sizes-n c = sym (sizes_missing _ _ _ _ _ _ c.if-n-gt-MODULE_LIMIT.false c.if-sizes-n.true)
@@ -26,14 +26,14 @@ pub returns-then-bad_offsets : goal.returns-then-bad_offsets
 returns-then-bad_offsets c =
     let few = c.if-n-gt-MODULE_LIMIT.false in
     let bad = sym c.bad_offsets.ensures ∙ c.if-bad_offsets.true in
-    sym (ids_bad _ _ _ _ _ _ few c.if-offsets-n.false c.if-sizes-n.false bad)
+    sym (ids_bad _ _ _ _ _ _ few c.if-ids-n.false c.if-sizes-n.false bad)
 
 pub returns-then-total_exceeds : goal.returns-then-total_exceeds
 returns-then-total_exceeds c =
     let passed : let a = c.args in Passed a.n a.ids.now.bytes.now a.ids.now.offsets.now a.sizes.now =
     record {
       few = c.if-n-gt-MODULE_LIMIT.false;
-      all_offsets = c.if-offsets-n.false;
+      all_offsets = c.if-ids-n.false;
       all_sizes = c.if-sizes-n.false;
       good = sym c.bad_offsets.ensures ∙ c.if-bad_offsets.false;
     } in
@@ -44,7 +44,7 @@ returns-then-is_nan c =
     let passed : let a = c.args in Passed a.n a.ids.now.bytes.now a.ids.now.offsets.now a.sizes.now =
     record {
       few = c.if-n-gt-MODULE_LIMIT.false;
-      all_offsets = c.if-offsets-n.false;
+      all_offsets = c.if-ids-n.false;
       all_sizes = c.if-sizes-n.false;
       good = sym c.bad_offsets.ensures ∙ c.if-bad_offsets.false;
     } in
@@ -57,7 +57,7 @@ returns-then-is_nan-2 c =
     let passed : let a = c.args in Passed a.n a.ids.now.bytes.now a.ids.now.offsets.now a.sizes.now =
     record {
       few = c.if-n-gt-MODULE_LIMIT.false;
-      all_offsets = c.if-offsets-n.false;
+      all_offsets = c.if-ids-n.false;
       all_sizes = c.if-sizes-n.false;
       good = sym c.bad_offsets.ensures ∙ c.if-bad_offsets.false;
     } in
@@ -71,7 +71,7 @@ pick_given-requires c =
     let passed : let a = c.args in Passed a.n a.ids.now.bytes.now a.ids.now.offsets.now a.sizes.now =
     record {
       few = c.if-n-gt-MODULE_LIMIT.false;
-      all_offsets = c.if-offsets-n.false;
+      all_offsets = c.if-ids-n.false;
       all_sizes = c.if-sizes-n.false;
       good = sym c.bad_offsets.ensures ∙ c.if-bad_offsets.false;
     } in
@@ -99,7 +99,7 @@ returns c =
     let passed : let a = c.args in Passed a.n a.ids.now.bytes.now a.ids.now.offsets.now a.sizes.now =
     record {
       few = c.if-n-gt-MODULE_LIMIT.false;
-      all_offsets = c.if-offsets-n.false;
+      all_offsets = c.if-ids-n.false;
       all_sizes = c.if-sizes-n.false;
       good = sym c.bad_offsets.ensures ∙ c.if-bad_offsets.false;
     } in

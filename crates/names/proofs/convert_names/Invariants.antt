@@ -3,7 +3,7 @@
 use Prim.Native.Nat.{◌-◌}
 use mathlib.Core.Path.{◌≡◌}
 use lib.ListN.{length, replicate}
-use Rattle.emitting.specs.Emitted.{work}
+use Rattle.emitting.specs.Emitted.{SameAreas, work}
 use Rattle.forget.specs.Unfollowed.{unfollowed}
 use Rattle.closed.specs.Closed.{Closed}
 use Rattle.names.proofs.NameSteps.{NamesDone}
@@ -17,6 +17,7 @@ invariant-loop-from l =
     (work l.areas)
     × (l.marks ≡ replicate (length l.flags) 0) × (length l.set ≡ length l.initial.set) × (length l.scratch ≡ length l.initial.scratch) × (l.followed ≡ unfollowed)
     × Closed l.flags l.records.first.now l.records.dependency.now l.records.next.now l.closed l.areas.chunk_of.now
+    × SameAreas l.initial.areas l.areas
 
 abbrev pub decreases-loop-from : goal.decreases-loop-from
 decreases-loop-from l = length l.matched - l.from

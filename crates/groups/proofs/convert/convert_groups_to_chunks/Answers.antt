@@ -6,7 +6,7 @@ use lib.ListN.{length, take, drop, replicate, length-replicate}
 use lib.Seq.{length-take-le, length_front, take_at}
 use Rattle.lists.proofs.Stored.{zeros}
 use Rattle.forget.specs.Unfollowed.{unfollowed}
-use Rattle.emitting.proofs.Chunk.{same_lengths}
+use Rattle.emitting.proofs.SameAreas.{same_areas, still_same}
 use Rattle.closed.proofs.ClosedSets.{closed_none, closed_as}
 use Rattle.names.proofs.OrderOf.{places_free}
 use Rattle.groups.proofs.Turning.{none_turned, next_turning, one_turned, all_turned, number_small, record_in}
@@ -41,7 +41,7 @@ loop-turn-init c =
     let r = c.copy_from_slice in
     let front = r.new.self in (
       none_turned,
-      same_lengths _,
+      same_areas _,
       refl,
       length-replicate {A = ℕ} 4096 0,
       length-replicate {A = ℕ} 4096 0,
@@ -76,7 +76,7 @@ overflow_add-number c = omega (arith, number_small c.loop-turn.invariant.0 c.req
 pub overflow_add-at : goal.overflow_add-at
 overflow_add-at c =
     let l = c.loop-turn in
-    omega (arith, record_in l.invariant.0 c.requires.groups_turning, l.invariant.1.group_of, c.well_formed.1.1.1.1.1.1.1.1.1.1.1.1.1.1.1.1.1.1.1.1.0)
+    omega (arith, record_in l.invariant.0 c.requires.groups_turning, l.invariant.1.lengths.group_of, c.room-room.ensures.count, c.room-room.ensures.small)
 
 pub slice_bounds-closed-end-in-loop-turn : goal.slice_bounds-closed-end-in-loop-turn
 slice_bounds-closed-end-in-loop-turn c =
@@ -126,8 +126,8 @@ pub overflow_add-made : goal.overflow_add-made
 overflow_add-made c =
     let l = c.loop-turn in
     let next = one_turned l.invariant.0 _ c.loop-turn-test.true c.convert_group-made.ensures.group_turned in
-    let kept = c.convert_group-made.auto.group_of in
-    omega (arith, record_in next c.requires.groups_turning, l.invariant.1.group_of, kept, c.well_formed.1.1.1.1.1.1.1.1.1.1.1.1.1.1.1.1.1.1.1.1.0)
+    let kept = c.convert_group-made.ensures.same.lengths.group_of in
+    omega (arith, record_in next c.requires.groups_turning, l.invariant.1.lengths.group_of, kept, c.room-room.ensures.count, c.room-room.ensures.small)
 
 pub loop-turn-preserved : goal.loop-turn-preserved
 loop-turn-preserved c =
@@ -139,14 +139,7 @@ loop-turn-preserved c =
     let n = c.args.n in
     let fits = length-take-le n l.closed (omega (arith, given_few c.requires.groups_turning, l.invariant.7)) in (
       one_turned l.invariant.0 _ c.loop-turn-test.true r.ensures.group_turned,
-      record {
-        chunk_of = r.auto.chunk_of ∙ same.chunk_of;
-        group_of = r.auto.group_of ∙ same.group_of;
-        name_of = r.auto.name_of ∙ same.name_of;
-        size_of = r.auto.size_of ∙ same.size_of;
-        bits_of = r.auto.bits_of ∙ same.bits_of;
-        mark_of = r.auto.mark_of ∙ same.mark_of;
-      },
+      still_same same r.ensures.same,
       r.auto.scratch ∙ l.invariant.2,
       length_front l.marks marks n r.auto.marks ∙ l.invariant.3,
       r.auto.set ∙ l.invariant.4,
@@ -158,4 +151,4 @@ loop-turn-preserved c =
 
 pub returns : goal.returns
 returns c =
-    let l = c.loop-turn in record { groups_turned = all_turned l.invariant.0 c.loop-turn-test.false; scratch_len_unchanged = l.invariant.2 }
+    let l = c.loop-turn in record { groups_turned = all_turned l.invariant.0 c.loop-turn-test.false; scratch_len_unchanged = l.invariant.2; same = l.invariant.1 }

@@ -1,9 +1,8 @@
 -- `groups::convert::convert_groups_to_chunks` meets its contract: one group more a turn, and what walks pass over is closed.
 use mathlib.Core.Path.{◌≡◌}
 use lib.ListN.{length, take}
-use Rattle.emitting.specs.Emitted.{work}
+use Rattle.emitting.specs.Emitted.{work, SameAreas}
 use Rattle.forget.specs.Unfollowed.{unfollowed}
-use Rattle.emitting.proofs.Chunk.{SameLengths}
 use Rattle.closed.specs.Closed.{Closed}
 use Rattle.groups.proofs.Turning.{TurnsTo}
 use Rattle.groups.proofs.convert.convert_groups_to_chunks.Given as goal
@@ -15,8 +14,7 @@ invariant-loop-turn l =
     (record { answers = l.answers; tags = l.tags; shares = l.shares }) l.n l.number.0 l.at l.turn-index l.made
     (work l.initial.areas)
     (work l.areas)
-    × SameLengths (work l.areas)
-    (work l.initial.areas)
+    × SameAreas l.initial.areas l.areas
     × (length l.scratch ≡ length l.initial.scratch)
     × (length l.marks ≡ 4096)
     × (length l.set ≡ 4096)

@@ -7,6 +7,7 @@ use native.Mathlib.Omega.{arith}
 use lib.ListN.{length, take}
 use lib.Seq.{length-take-le}
 use Rattle.emitting.specs.Emitted.{work}
+use Rattle.emitting.proofs.SameAreas.{same_areas}
 use Rattle.whole.specs.Double.{sum_f64}
 use Rattle.cut.specs.Order.{sizes_in, Sized}
 use Rattle.left.specs.Untaken.{untaken}
@@ -20,7 +21,7 @@ pub keep_left-count-requires : goal.keep_left-count-requires
 keep_left-count-requires c = c.requires.listed
 
 pub returns-then-count-eq0 : goal.returns-then-count-eq0
-returns-then-count-eq0 c = record { converted = none_converted _ _ _ _ (nothing_left ((record { bytes = c.args.ids.now.bytes.now; offsets = c.args.ids.now.offsets.now; sizes = c.args.sizes.now; rank = c.args.rank.now })) c.args.head c.args.limits ((untaken c.args.areas.now.chunk_of.now c.args.list.now)) (sym c.keep_left-count.ensures.number ∙ c.if-count-eq0.true)); members_len_unchanged = c.keep_left-count.ensures.long }
+returns-then-count-eq0 c = record { converted = none_converted _ _ _ _ (nothing_left ((record { bytes = c.args.ids.now.bytes.now; offsets = c.args.ids.now.offsets.now; sizes = c.args.sizes.now; rank = c.args.rank.now })) c.args.head c.args.limits ((untaken c.args.areas.now.chunk_of.now c.args.list.now)) (sym c.keep_left-count.ensures.number ∙ c.if-count-eq0.true)); members_len_unchanged = c.keep_left-count.ensures.long; same = same_areas _ }
 
 pub slice_bounds-total_size-end : goal.slice_bounds-total_size-end
 slice_bounds-total_size-end c =
@@ -45,7 +46,7 @@ returns-then-total-limits c =
     let some : (c.keep_left-count.result ≡ 0 → ⊥) → 1 ≤ length ((untaken c.args.areas.now.chunk_of.now c.args.list.now)) =
     λ h. omega (arith, c.keep_left-count.ensures.number) in
     let total = c.total_size-total.ensures ∙ ap (λ (l : List ℕ). sum_f64 (sizes_in c.args.sizes.now l)) c.keep_left-count.ensures.written in
-    let filled = some c.if-count-eq0.false in record { converted = none_converted _ _ _ _ (below_minimum ((record { bytes = c.args.ids.now.bytes.now; offsets = c.args.ids.now.offsets.now; sizes = c.args.sizes.now; rank = c.args.rank.now })) c.args.head c.args.limits ((untaken c.args.areas.now.chunk_of.now c.args.list.now)) filled total c.if-total-limits.true); members_len_unchanged = c.keep_left-count.ensures.long }
+    let filled = some c.if-count-eq0.false in record { converted = none_converted _ _ _ _ (below_minimum ((record { bytes = c.args.ids.now.bytes.now; offsets = c.args.ids.now.offsets.now; sizes = c.args.sizes.now; rank = c.args.rank.now })) c.args.head c.args.limits ((untaken c.args.areas.now.chunk_of.now c.args.list.now)) filled total c.if-total-limits.true); members_len_unchanged = c.keep_left-count.ensures.long; same = same_areas _ }
 
 pub slice_bounds-emit_item-end : goal.slice_bounds-emit_item-end
 slice_bounds-emit_item-end c =

@@ -15,7 +15,7 @@ returns-in_err-shape_number c =
     rw (p.1, p.2)
     (shape_refuses _
     (c.in_err-shape_number.ensures b
-    (hands_shape _ _ _ _ _ c.module_lengths-modules.ensures c.record_lengths-records.ensures c.group_lengths-groups.ensures h)))
+    (hands_shape _ _ _ _ _ c.module_lengths-by_module.ensures c.record_lengths-by_record.ensures c.group_lengths-by_group.ensures h)))
 
 pub test_order-requires : goal.test_order-requires
 test_order-requires c =
@@ -55,7 +55,7 @@ test_order-requires c =
     } in
     let z : 0 ≡ first_number (shape_tests (build s v)) =
     c.in_ok-shape_number.ensures (build s v)
-    (hands_shape s v _ _ _ c.module_lengths-modules.ensures c.record_lengths-records.ensures c.group_lengths-groups.ensures (hands_itself s v)) in
+    (hands_shape s v _ _ _ c.module_lengths-by_module.ensures c.record_lengths-by_record.ensures c.group_lengths-by_group.ensures (hands_itself s v)) in
     (order_ready s v z _ _ c.requires.0 c.requires.1, content_ready s v z)
 
 pub returns : goal.returns
@@ -96,9 +96,9 @@ returns c =
     } in
     let z : 0 ≡ first_number (shape_tests (build s v)) =
     c.in_ok-shape_number.ensures (build s v)
-    (hands_shape s v _ _ _ c.module_lengths-modules.ensures c.record_lengths-records.ensures c.group_lengths-groups.ensures (hands_itself s v)) in
+    (hands_shape s v _ _ _ c.module_lengths-by_module.ensures c.record_lengths-by_record.ensures c.group_lengths-by_group.ensures (hands_itself s v)) in
     λ b h.
     order_decides
     (c.in_ok-shape_number.ensures b
-    (hands_shape s v _ _ _ c.module_lengths-modules.ensures c.record_lengths-records.ensures c.group_lengths-groups.ensures h))
+    (hands_shape s v _ _ _ c.module_lengths-by_module.ensures c.record_lengths-by_record.ensures c.group_lengths-by_group.ensures h))
     (c.test_order.ensures b (hands_order s v z h) (hands_content s v z h))

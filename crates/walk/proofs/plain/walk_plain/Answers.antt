@@ -15,14 +15,14 @@ loop-head-init c =
     let a = c.args in
     walk_begins a.flags.now a.records.now.first.now a.records.now.dependency.now a.records.now.next.now _ _ _ c.requires.state
 
-pub shape_of-marks-then-next-gone : goal.shape_of-marks-then-next-gone
-shape_of-marks-then-next-gone c = c.loop-head.invariant.state.mark_bytes ∙ sym c.requires.state.mark_bytes
+pub shape_of-marks-then-records-gone : goal.shape_of-marks-then-records-gone
+shape_of-marks-then-records-gone c = c.loop-head.invariant.state.mark_bytes ∙ sym c.requires.state.mark_bytes
 
-pub shape_of-queue-then-next-gone : goal.shape_of-queue-then-next-gone
-shape_of-queue-then-next-gone c = c.loop-head.invariant.queue_length
+pub shape_of-queue-then-records-gone : goal.shape_of-queue-then-records-gone
+shape_of-queue-then-records-gone c = c.loop-head.invariant.queue_length
 
-pub returns-then-next-gone : goal.returns-then-next-gone
-returns-then-next-gone c = c.loop-head.invariant
+pub returns-then-records-gone : goal.returns-then-records-gone
+returns-then-records-gone c = c.loop-head.invariant
 
 pub overflow_add-head : goal.overflow_add-head
 overflow_add-head c =
@@ -36,7 +36,7 @@ take_four-passed-requires c =
     record {
       tables = c.requires.tables;
       state = c.loop-head.invariant.state;
-      few = omega (arith, c.if-next-gone.false);
+      few = omega (arith, c.if-records-gone.false);
       four = c.if-head-found.true;
     }
 
@@ -85,7 +85,7 @@ follow_plain-passed-requires c =
     record {
       tables = link_tables c.requires.tables (tables_good);
       state = c.loop-head.invariant.state;
-      few = omega (arith, c.if-next-gone.false);
+      few = omega (arith, c.if-records-gone.false);
       chain = subst (Chain _ _) (sym c.first_at-from.ensures) begins;
     }
 

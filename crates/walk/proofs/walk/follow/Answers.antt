@@ -11,16 +11,13 @@ use Rattle.records.proofs.Table.{Good, good}
 use Rattle.walk.proofs.Chains.{follow_begins, follow_ends, followed_ends, follow_less, follow_turns, named_in}
 use Rattle.walk.proofs.walk.follow.Goals as goal
 
-pub offset_bounds-first-at : goal.offset_bounds-first-at
-offset_bounds-first-at c =
+pub offset_bounds-records-at : goal.offset_bounds-records-at
+offset_bounds-records-at c =
     omega (arith, c.requires.tables.records.firsts, c.requires.module_in)
 
-pub bounds-first-at : goal.bounds-first-at
-bounds-first-at c =
+pub bounds-records-at : goal.bounds-records-at
+bounds-records-at c =
     omega (arith, c.requires.tables.records.firsts, c.requires.module_in)
-
-pub overflow_cast-r : goal.overflow_cast-r
-overflow_cast-r c = Fits-32_64 (c.type_inv.first _)
 
 pub loop-followed-init : goal.loop-followed-init
 loop-followed-init c =
@@ -39,12 +36,12 @@ pub bounds-followed-r-in-loop-followed : goal.bounds-followed-r-in-loop-followed
 bounds-followed-r-in-loop-followed c =
     let m = c.loop-followed.invariant.marking in omega (arith, m.record_in, m.marked.room)
 
-pub offset_bounds-dependency-r : goal.offset_bounds-dependency-r
-offset_bounds-dependency-r c =
+pub offset_bounds-records-r : goal.offset_bounds-records-r
+offset_bounds-records-r c =
     omega (arith, c.loop-followed.invariant.marking.record_in, c.requires.tables.records.modules)
 
-pub bounds-dependency-r : goal.bounds-dependency-r
-bounds-dependency-r c =
+pub bounds-records-r : goal.bounds-records-r
+bounds-records-r c =
     omega (arith, c.loop-followed.invariant.marking.record_in, c.requires.tables.records.modules)
 
 pub visit-found-requires : goal.visit-found-requires
@@ -58,16 +55,13 @@ visit-found-requires c =
       module_in = named_in a.flags.now a.records.now.first.now a.records.now.dependency.now a.records.now.next.now _ _ (tables_good) _ _ _ _ _ _ c.loop-followed.invariant h;
     }
 
-pub offset_bounds-next-r : goal.offset_bounds-next-r
-offset_bounds-next-r c =
+pub offset_bounds-records-r-in-loop-followed : goal.offset_bounds-records-r-in-loop-followed
+offset_bounds-records-r-in-loop-followed c =
     omega (arith, c.loop-followed.invariant.marking.record_in, c.requires.tables.records.nexts)
 
-pub bounds-next-r : goal.bounds-next-r
-bounds-next-r c =
+pub bounds-records-r-in-loop-followed : goal.bounds-records-r-in-loop-followed
+bounds-records-r-in-loop-followed c =
     omega (arith, c.loop-followed.invariant.marking.record_in, c.requires.tables.records.nexts)
-
-pub overflow_cast-r-in-loop-followed : goal.overflow_cast-r-in-loop-followed
-overflow_cast-r-in-loop-followed c = Fits-32_64 (c.type_inv.next _)
 
 pub loop-followed-smaller : goal.loop-followed-smaller
 loop-followed-smaller c =
