@@ -18,6 +18,7 @@ fn falls<T: PartialOrd>(a: &[T]) -> bool
 pub fn ascends<T: PartialOrd>(a: &[T]) -> bool
     ensures { result ≡ ascends_by (partial_lt T.partial_cmp) a.now }
 {
+    // A loop by hand: each 17 share one number with the next 17, and the rest counts too, which no iterator gives in one.
     let mut rest = a;
     while 17 <= rest.len() {
         if falls(&rest[..17]) {

@@ -67,7 +67,8 @@ fn make_chunks(
 {
     let mut turns = [0u32; 64];
     into_priority_sorted_groups(settings, &mut turns[..g]);
-    areas.chunk_of[..n].fill(0);
+    let chunk_of = &mut *areas.chunk_of;
+    chunk_of[..n].fill(0);
     convert_groups_to_chunks(
         settings,
         &turns[..g],

@@ -4,7 +4,6 @@
 
 pub mod cases;
 pub mod offsets;
-pub mod wordlist;
 
 use textform::reading::Words;
 use textform::values;

@@ -33,6 +33,14 @@ slice_bounds-closed-end c =
       given_few c.requires.groups_turning,
     )
 
+pub slice_bounds-copy_from_slice-end : goal.slice_bounds-copy_from_slice-end
+slice_bounds-copy_from_slice-end c =
+    sym (zeros-front c.args.n (given_few c.requires.groups_turning))
+
+pub copy_from_slice-requires : goal.copy_from_slice-requires
+copy_from_slice-requires c =
+    zeros-front c.args.n (given_few c.requires.groups_turning) ∙ sym (given_flags c.requires.groups_turning)
+
 pub loop-turn-init : goal.loop-turn-init
 unfolding unfollowed
 loop-turn-init c =
