@@ -3,7 +3,7 @@ ghost use Rattle.std.specs.Prelude.{◌≤◌};
 
 use chunktable::ChunkTable;
 use listform::{list, looks};
-use plainsplit::Answer;
+use refusal::Refusal;
 use textform::out;
 
 #[derive(Clone, Copy)]
@@ -21,9 +21,9 @@ pub struct ChunkList<'a> {
 
 impl ChunkList<'_> {
     // The chunks as a table.
-    pub fn show_table(self, answer: Answer) {
+    pub fn show_table(self, answer: Result<usize, Refusal>) {
         match answer {
-            Err(number) => chunktable::refused(number),
+            Err(refusal) => chunktable::refused(refusal.number()),
             Ok(count) => self.table().chunks(count),
         }
     }
@@ -49,13 +49,19 @@ impl ChunkList<'_> {
     }
 
     // The text form, over n modules: the list, and what the areas show to be wrong.
-    pub fn show_text(self, tag: &[u8], answer: Answer, n: usize, lent_scratch: usize)
+    pub fn show_text(
+        self,
+        tag: &[u8],
+        answer: Result<usize, Refusal>,
+        n: usize,
+        lent_scratch: usize,
+    )
         requires { n ≤ 128 }
     {
         out::begin(b"chunks", tag);
         match answer {
-            Err(number) => {
-                out::refused(number);
+            Err(refusal) => {
+                out::refused(refusal.number());
                 self.look(tag, 0, 0);
                 looks::scratch(tag, 0, self.scratch);
             }

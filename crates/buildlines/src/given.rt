@@ -1,8 +1,6 @@
 // The options of a build or of a group, each if it is given.
 use crate::reader::{Reader, Unread};
-use filter::MinShareCount;
-use limit::Limit;
-use options::{Options, Recursion};
+use options::Options;
 
 #[derive(Clone, Copy)]
 pub struct GivenOptions {
@@ -12,13 +10,6 @@ pub struct GivenOptions {
     pub max_module_size: Option<f64>,
     pub min_share_count: Option<u32>,
     pub recursion: Option<bool>,
-}
-
-fn limit_of(limit: Option<f64>) -> Limit {
-    match limit {
-        None => Limit::Absent,
-        Some(limit) => Limit::Given(limit),
-    }
 }
 
 impl GivenOptions {
@@ -50,22 +41,13 @@ impl GivenOptions {
 
     // As the call takes them.
     pub fn to_options(self) -> Options {
-        let min_share_count = match self.min_share_count {
-            None => MinShareCount::Absent,
-            Some(count) => MinShareCount::Given(count),
-        };
-        let recursion = match self.recursion {
-            None => Recursion::Absent,
-            Some(false) => Recursion::Off,
-            Some(true) => Recursion::On,
-        };
         Options {
-            min_size: limit_of(self.min_size),
-            max_size: limit_of(self.max_size),
-            min_module_size: limit_of(self.min_module_size),
-            max_module_size: limit_of(self.max_module_size),
-            min_share_count,
-            recursion,
+            min_size: self.min_size,
+            max_size: self.max_size,
+            min_module_size: self.min_module_size,
+            max_module_size: self.max_module_size,
+            min_share_count: self.min_share_count,
+            recursion: self.recursion,
         }
     }
 }

@@ -3,7 +3,10 @@ use buildform::Build;
 use buildform::lengths::Lengths;
 use buildlines::tables;
 use buildlines::tables::prefix;
-use plainsplit::{GroupTables, ModuleTables, RecordTables};
+use ids::parts::Ids;
+use options::tables::Groups;
+use plainsplit::ModuleTables;
+use records::Records;
 
 fn modules<'a>(read: &'a tables::Tables, lengths: &Lengths) -> ModuleTables<'a> {
     ModuleTables {
@@ -13,21 +16,23 @@ fn modules<'a>(read: &'a tables::Tables, lengths: &Lengths) -> ModuleTables<'a> 
         shares: prefix(&read.modules.shares, lengths.shares.entries),
         tags: prefix(&read.modules.tags, lengths.tags.entries),
         bits: prefix(&read.modules.bits, lengths.bits.entries),
-        ids: prefix(&read.ids.bytes, read.ids.length),
-        offsets: prefix(&read.modules.offsets, lengths.offsets.entries),
+        ids: Ids {
+            bytes: prefix(&read.ids.bytes, read.ids.length),
+            offsets: prefix(&read.modules.offsets, lengths.offsets.entries),
+        },
     }
 }
 
-fn records<'a>(read: &'a tables::Tables, lengths: &Lengths) -> RecordTables<'a> {
-    RecordTables {
+fn records<'a>(read: &'a tables::Tables, lengths: &Lengths) -> Records<'a> {
+    Records {
         first: prefix(&read.modules.first, lengths.first.entries),
         dependency: prefix(&read.records.dependency, lengths.dependency.entries),
         next: prefix(&read.records.next, lengths.next.entries),
     }
 }
 
-fn groups<'a>(read: &'a tables::Tables, lengths: &Lengths) -> GroupTables<'a> {
-    GroupTables {
+fn groups<'a>(read: &'a tables::Tables, lengths: &Lengths) -> Groups<'a> {
+    Groups {
         given: prefix(&read.groups.given, lengths.given.entries),
         min_size: prefix(&read.groups.min_size, lengths.min_size.entries),
         max_size: prefix(&read.groups.max_size, lengths.max_size.entries),
@@ -46,7 +51,6 @@ fn groups<'a>(read: &'a tables::Tables, lengths: &Lengths) -> GroupTables<'a> {
         tags: prefix(&read.groups.tags, lengths.group_tags.entries),
         priority: prefix(&read.groups.priority, lengths.priority.entries),
         threshold: prefix(&read.groups.threshold, lengths.threshold.entries),
-        answers: prefix(&read.answers.numbers, lengths.answers.entries),
     }
 }
 
@@ -57,5 +61,6 @@ pub fn handed_over(build: &Build) -> plainsplit::Build<'_> {
         modules: modules(&build.tables, &build.lengths),
         records: records(&build.tables, &build.lengths),
         groups: groups(&build.tables, &build.lengths),
+        answers: prefix(&build.tables.answers.numbers, build.lengths.answers.entries),
     }
 }

@@ -4,10 +4,13 @@ ghost use Rattle.std.specs.Prelude.{◌≤◌};
 use buildlines::counts::Counts;
 use buildlines::given::GivenOptions;
 use buildlines::tables::prefix;
+use ids::parts::Ids;
 use largesttables::change::Change;
 use largesttables::counts;
 use largesttables::tables::Tables;
-use plainsplit::{Build, GroupTables, ModuleTables, RecordTables};
+use options::tables::Groups;
+use plainsplit::{Build, ModuleTables};
+use records::Records;
 
 // What is absent or zero everywhere is one table for all.
 const NUMBERS: [u32; 4097] = [0; 4097];
@@ -27,23 +30,25 @@ fn modules<'a>(tables: &'a Tables, n: usize) -> ModuleTables<'a>
         shares: prefix(&NUMBERS, n),
         tags: prefix(&WORDS, n),
         bits: prefix(&tables.bits, 4 * n),
-        ids: prefix(&tables.ids, 2 * n + 1022),
-        offsets: prefix(&tables.offsets, n + 1),
+        ids: Ids {
+            bytes: prefix(&tables.ids, 2 * n + 1022),
+            offsets: prefix(&tables.offsets, n + 1),
+        },
     }
 }
 
-fn records<'a>(tables: &'a Tables, counts: Counts) -> RecordTables<'a>
+fn records<'a>(tables: &'a Tables, counts: Counts) -> Records<'a>
     requires { counts.d ≤ 65536 }
 {
-    RecordTables {
+    Records {
         first: prefix(&tables.first, counts.n),
         dependency: prefix(&tables.dependency, counts.d + 1),
         next: prefix(&tables.next, counts.d + 1),
     }
 }
 
-fn groups<'a>(tables: &'a Tables, g: usize, answers: usize) -> GroupTables<'a> {
-    GroupTables {
+fn groups<'a>(tables: &'a Tables, g: usize) -> Groups<'a> {
+    Groups {
         given: prefix(&tables.given, g),
         min_size: prefix(&LIMITS, g),
         max_size: prefix(&LIMITS, g),
@@ -53,7 +58,6 @@ fn groups<'a>(tables: &'a Tables, g: usize, answers: usize) -> GroupTables<'a> {
         tags: prefix(&WORDS, g),
         priority: prefix(&tables.priority, g),
         threshold: prefix(&tables.threshold, g),
-        answers: prefix(&tables.answers, answers),
     }
 }
 
@@ -65,7 +69,8 @@ fn answer(change: Change, tables: &Tables) {
         options: GivenOptions::NONE.to_options(),
         modules: modules(tables, counts.n),
         records: records(tables, counts),
-        groups: groups(tables, counts.g, counts::answers_of(change)),
+        groups: groups(tables, counts.g),
+        answers: prefix(&tables.answers, counts::answers_of(change)),
     };
     largestcalls::answer(change, build);
 }

@@ -1,5 +1,6 @@
 // The areas after a call over the largest build, and what is printed of its answer: the number of a refusal, or how many chunks there are.
 use crate::looks;
+use refusal::Refusal;
 use textform::out;
 
 #[derive(Clone, Copy)]
@@ -17,10 +18,10 @@ pub struct Areas<'a> {
 
 impl Areas<'_> {
     // Nothing is written where the call is refused.
-    pub fn show(self, answer: Result<usize, u32>) {
+    pub fn show(self, answer: Result<usize, Refusal>) {
         match answer {
-            Err(number) => {
-                out::refused(number);
+            Err(refusal) => {
+                out::refused(refusal.number());
                 looks::modules(self, 0);
                 looks::records(self, 0);
                 looks::scratch(self, 0);

@@ -1,5 +1,5 @@
 // LENGTH NAME, or a refusal, and what is wrong with the lent area.
-use chunk_names::NameAnswer;
+use refusal::Refusal;
 use tablecalls::looks;
 use textform::{entries, out};
 
@@ -15,13 +15,13 @@ fn show_name(name: &[u8]) {
 }
 
 // A refusal leaves the area as it was, and a name all bytes past it.
-pub fn show(tag: &[u8], answer: NameAnswer, area: &[u8; 16500]) {
+pub fn show(tag: &[u8], answer: Result<usize, Refusal>, area: &[u8; 16500]) {
     match answer {
-        NameAnswer::Refused(number) => {
-            out::refused(number);
+        Err(refusal) => {
+            out::refused(refusal.number());
             looks::untouched(tag, b"the area was written", area, 0);
         }
-        NameAnswer::Named(length) => {
+        Ok(length) => {
             out::blank();
             out::number(length as u64);
             out::blank();

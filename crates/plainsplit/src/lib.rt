@@ -3,8 +3,12 @@
 #![tactic(auto)]
 
 use buildlines::counts::Counts;
-use chunks::ChunksAnswer;
+use emitting::ChunkAreas;
+use ids::parts::Ids;
 use options::Options;
+use options::tables::Groups;
+use records::Records;
+use refusal::Refusal;
 
 #[derive(Clone, Copy)]
 pub struct ModuleTables<'a> {
@@ -14,29 +18,7 @@ pub struct ModuleTables<'a> {
     pub shares: &'a [u32],
     pub tags: &'a [u64],
     pub bits: &'a [u64],
-    pub ids: &'a [u8],
-    pub offsets: &'a [u32],
-}
-
-#[derive(Clone, Copy)]
-pub struct RecordTables<'a> {
-    pub first: &'a [u32],
-    pub dependency: &'a [u32],
-    pub next: &'a [u32],
-}
-
-#[derive(Clone, Copy)]
-pub struct GroupTables<'a> {
-    pub given: &'a [u8],
-    pub min_size: &'a [f64],
-    pub max_size: &'a [f64],
-    pub min_module_size: &'a [f64],
-    pub max_module_size: &'a [f64],
-    pub min_share_count: &'a [u32],
-    pub tags: &'a [u64],
-    pub priority: &'a [u32],
-    pub threshold: &'a [f64],
-    pub answers: &'a [u32],
+    pub ids: Ids<'a>,
 }
 
 #[derive(Clone, Copy)]
@@ -44,8 +26,9 @@ pub struct Build<'a> {
     pub counts: Counts,
     pub options: Options,
     pub modules: ModuleTables<'a>,
-    pub records: RecordTables<'a>,
-    pub groups: GroupTables<'a>,
+    pub records: Records<'a>,
+    pub groups: Groups<'a>,
+    pub answers: &'a [u32],
 }
 
 // The areas that are lent.
@@ -62,17 +45,8 @@ pub struct Areas<'a> {
     pub scratch: &'a mut [u32],
 }
 
-// The number of a refusal, or how many chunks there are.
-pub type Answer = Result<usize, u32>;
-
-fn call(
-    counts: Counts,
-    options: Options,
-    modules: ModuleTables,
-    records: RecordTables,
-    groups: GroupTables,
-    areas: Areas,
-) -> ChunksAnswer {
+// Answers how many chunks there are.
+pub fn split(build: Build, areas: Areas) -> Result<usize, Refusal> {
     let Areas {
         chunk_of,
         next_of,
@@ -84,58 +58,52 @@ fn call(
         mark_of,
         scratch,
     } = areas;
-    chunks::split(
-        counts.n,
-        counts.g,
-        counts.e,
-        counts.k,
-        counts.d,
-        modules.flags,
-        modules.sizes,
-        modules.orders,
-        modules.shares,
-        modules.tags,
-        modules.bits,
-        modules.ids,
-        modules.offsets,
-        records.first,
-        records.dependency,
-        records.next,
-        options,
-        groups.given,
-        groups.min_size,
-        groups.max_size,
-        groups.min_module_size,
-        groups.max_module_size,
-        groups.min_share_count,
-        groups.tags,
-        groups.priority,
-        groups.threshold,
-        groups.answers,
-        counts.on_entry,
+    let mut lent = ChunkAreas {
         chunk_of,
-        next_of,
-        first_of,
         group_of,
         name_of,
         size_of,
         bits_of,
         mark_of,
+    };
+    let Counts {
+        n,
+        g,
+        e,
+        k,
+        d,
+        on_entry,
+    } = build.counts;
+    let ModuleTables {
+        flags,
+        sizes,
+        orders,
+        shares,
+        tags,
+        bits,
+        ids,
+    } = build.modules;
+    chunks::split(
+        n,
+        g,
+        e,
+        k,
+        d,
+        flags,
+        sizes,
+        orders,
+        shares,
+        tags,
+        bits,
+        &ids,
+        &build.records,
+        build.options,
+        &build.groups,
+        build.answers,
+        on_entry,
+        &mut lent,
+        next_of,
+        first_of,
         scratch,
     )
-}
-
-pub fn split(build: Build, areas: Areas) -> Answer {
-    let answer = call(
-        build.counts,
-        build.options,
-        build.modules,
-        build.records,
-        build.groups,
-        areas,
-    );
-    match answer {
-        ChunksAnswer::Refused(number) => Err(number),
-        ChunksAnswer::Made(count) => Ok(count),
-    }
 }

@@ -2,7 +2,8 @@
 ghost use Rattle.std.specs.Prelude.{◌≤◌};
 ghost use Rattle.std.specs.Option.{IfSome};
 
-use cut::{Cut, CutAnswer, CutPoint};
+use cut::{Cut, CutPoint};
+use ids::parts::Ids;
 use textform::reading::Words;
 use textform::{entries, out};
 use withlines::Form;
@@ -86,17 +87,20 @@ pub fn answer(tag: &[u8], mut words: Words, with: &[&[u8]]) -> Option<()> {
 // The call and its answer.
 fn run(with: &[&[u8]], call: &Call) {
     let n = call.n;
+    let ids = Ids {
+        bytes: call.ids,
+        offsets: entries::front(call.offsets, withlines::length(with, b"offsets", n + 1)),
+    };
     let answer = cut::pick_relevance_split_index(
         withlines::count(with, b"n", n),
-        call.ids,
-        entries::front(call.offsets, withlines::length(with, b"offsets", n + 1)),
+        &ids,
         entries::front(call.sizes, withlines::length(with, b"sizes", n)),
         call.minimum,
         call.maximum,
     );
     match answer {
-        CutAnswer::Refused(number) => out::refused(number),
-        CutAnswer::Answered(chosen) => show(chosen),
+        Err(refusal) => out::refused(refusal.number()),
+        Ok(chosen) => show(chosen),
     }
 }
 

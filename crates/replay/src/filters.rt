@@ -1,15 +1,15 @@
 // filter TAG MASK MIN_MODULE_SIZE MAX_MODULE_SIZE MIN_SHARE_COUNT TAGS SIZE SHARE_COUNT
-use filter::{Filtered, MinShareCount, StaticFilter};
+use filter::StaticFilter;
 use textform::reading::Words;
 use textform::{out, values};
 
 // A share count is a number, or `-` where it is absent.
-fn share_count(word: &[u8]) -> Option<MinShareCount> {
+fn share_count(word: &[u8]) -> Option<Option<u32>> {
     match word {
-        b"-" => Some(MinShareCount::Absent),
+        b"-" => Some(None),
         _ => {
             let given = u32::try_from(values::decimal(word)?).ok()?;
-            Some(MinShareCount::Given(given))
+            Some(Some(given))
         }
     }
 }
@@ -35,8 +35,8 @@ pub fn answer(tag: &[u8], mut words: Words) -> Option<()> {
 // The call and its answer.
 fn run(filter: StaticFilter, tags: u64, size: u64, shares: u32) {
     match filter::passes_static_filters(filter, tags, size, shares) {
-        Filtered::Refused(number) => out::refused(number),
-        Filtered::Passes(true) => out::text(b" 1\n"),
-        Filtered::Passes(false) => out::text(b" 0\n"),
+        Err(refusal) => out::refused(refusal.number()),
+        Ok(true) => out::text(b" 1\n"),
+        Ok(false) => out::text(b" 0\n"),
     }
 }

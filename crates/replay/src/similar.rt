@@ -1,5 +1,4 @@
 // sim TAG ID ID
-use similarity::Similarity;
 use textform::out;
 use textform::reading::Words;
 
@@ -19,8 +18,8 @@ pub fn answer(tag: &[u8], mut words: Words) -> Option<()> {
 // The call and its answer.
 fn run(left: &[u8], right: &[u8]) {
     match similarity::stable_id_similarity(left, right) {
-        Similarity::Refused(number) => out::refused(number),
-        Similarity::Score(score) => {
+        Err(refusal) => out::refused(refusal.number()),
+        Ok(score) => {
             out::blank();
             out::number(score);
             out::line_end();

@@ -2,9 +2,10 @@
 ghost use Rattle.std.specs.Prelude.{◌≤◌};
 
 use crate::looks;
-use capture::CaptureAnswer;
 use index::ModuleIdx;
 use listform::areas;
+use records::Records;
+use refusal::Refusal;
 use textform::reading::Words;
 use textform::{entries, out};
 use withlines::Form;
@@ -102,18 +103,21 @@ fn run(tag: &[u8], with: &[&[u8]], call: &Call) {
     let spare = call.n.wrapping_add(3);
     let count = withlines::count(with, b"n", call.n);
     let lent = withlines::area(with, 1, spare);
+    let tables = Records {
+        first: entries::front(call.first, withlines::length(with, b"first", call.n)),
+        dependency: entries::front(
+            call.dependency,
+            withlines::length(with, b"dep_module", records),
+        ),
+        next: entries::front(call.next, withlines::length(with, b"dep_next", records)),
+    };
     let answer = capture::add_module_and_dependencies_to_group_recursively(
         count,
         withlines::count(with, b"d", call.d),
         call.recursive,
         call.from,
         entries::front(call.flags, withlines::length(with, b"flags", call.n)),
-        entries::front(call.first, withlines::length(with, b"first", call.n)),
-        entries::front(
-            call.dependency,
-            withlines::length(with, b"dep_module", records),
-        ),
-        entries::front(call.next, withlines::length(with, b"dep_next", records)),
+        &tables,
         areas::lent(&mut marks, withlines::area(with, 0, spare)),
         areas::lent(&mut scratch, lent),
     );
@@ -123,19 +127,19 @@ fn run(tag: &[u8], with: &[&[u8]], call: &Call) {
 // The answer. Marks past the modules are as they were, and all of the lent scratch is zeros.
 fn show(
     tag: &[u8],
-    answer: CaptureAnswer,
+    answer: Result<(), Refusal>,
     n: usize,
     lent: usize,
     marks: &[u8; 4100],
     scratch: &[u32; 4100],
 ) {
     match answer {
-        CaptureAnswer::Refused(number) => {
-            out::refused(number);
+        Err(refusal) => {
+            out::refused(refusal.number());
             looks::untouched(tag, b"marks were written", marks, 0);
             looks::scratch(tag, 0, scratch);
         }
-        CaptureAnswer::Done => {
+        Ok(()) => {
             show_marks(&marks[..n.min(4096)]);
             looks::untouched(tag, b"marks were written", marks, n);
             looks::scratch(tag, lent, scratch);

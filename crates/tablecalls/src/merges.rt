@@ -2,9 +2,8 @@
 ghost use Rattle.std.specs.Prelude.{◌≤◌};
 
 use crate::looks;
-use limit::Limit;
 use listform::areas;
-use merge::MergeAnswer;
+use refusal::Refusal;
 use textform::reading::Words;
 use textform::{entries, out};
 use withlines::Form;
@@ -35,14 +34,6 @@ fn read_subgroups(words: &mut Words, sizes: &mut [u64], bits: &mut [u64]) -> Opt
     Some(())
 }
 
-// An absent threshold is 0.
-fn threshold_of(limit: Limit) -> f64 {
-    match limit {
-        Limit::Absent => 0.0,
-        Limit::Given(threshold) => threshold,
-    }
-}
-
 // Whether every line that spoils the call is one that it can have.
 fn all_known(with: &[&[u8]]) -> bool {
     withlines::all_known(
@@ -61,7 +52,8 @@ fn all_known(with: &[&[u8]]) -> bool {
 pub fn answer(tag: &[u8], mut words: Words, with: &[&[u8]]) -> Option<()> {
     let k = words.decimal_within(4097)? as usize;
     let entries = words.decimal()? as usize;
-    let threshold = threshold_of(words.limit()?);
+    // An absent threshold is 0.
+    let threshold = words.limit()?.unwrap_or(0.0);
     let mut sizes = [0u64; 4098];
     let mut bits = [0u64; 16392];
     read_subgroups(&mut words, &mut sizes[..k], &mut bits[..4 * k])?;
@@ -120,7 +112,7 @@ fn look(tag: &[u8], written: usize, numbers: &[u32; 4100], sizes: &[u64; 4100], 
 
 // Answers how many subgroups were written.
 fn show(
-    answer: MergeAnswer,
+    answer: Result<(), Refusal>,
     k: usize,
     numbers: &[u32; 4100],
     sizes: &[u64; 4100],
@@ -129,11 +121,11 @@ fn show(
     ensures { result ≤ 4096 }
 {
     match answer {
-        MergeAnswer::Refused(number) => {
-            out::refused(number);
+        Err(refusal) => {
+            out::refused(refusal.number());
             0
         }
-        MergeAnswer::Done => {
+        Ok(()) => {
             let written = k.min(4096);
             show_all(&numbers[..written], sizes, bits);
             written

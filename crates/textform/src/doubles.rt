@@ -1,16 +1,15 @@
 // The bits of doubles, and limits for readers that keep a place in a text.
 use crate::{values, words};
-use limit::Limit;
 
 #[derive(Clone, Copy)]
 pub struct LimitField {
-    pub value: Limit,
+    pub value: Option<f64>,
     pub at: usize,
 }
 
 // The bit pattern of a double; of a NaN, one of its patterns.
 pub fn bits_of(x: f64) -> u64 {
-    if limit::is_nan(x) {
+    if x.is_nan() {
         return 9221120237041090560;
     }
     f64::to_bits(x)
@@ -21,7 +20,7 @@ pub fn limit(line: &[u8], at: usize) -> LimitField {
     match values::limit(words::part(line, word)) {
         Some(value) => LimitField { value, at: word.to },
         None => LimitField {
-            value: Limit::Absent,
+            value: None,
             at: words::NOWHERE,
         },
     }

@@ -4,7 +4,6 @@ ghost use Rattle.std.specs.Iterator.{at_most};
 ghost use Rattle.std.specs.Option.{IfSome};
 
 use crate::values;
-use limit::Limit;
 
 // The lines that are left of a text, each without its end.
 #[derive(Drop)]
@@ -90,7 +89,7 @@ impl<'a> Words<'a> {
         values::double(self.next()?)
     }
 
-    pub fn limit(&mut self) -> Option<Limit> {
+    pub fn limit(&mut self) -> Option<Option<f64>> {
         values::limit(self.next()?)
     }
 

@@ -2,8 +2,6 @@
 ghost use Rattle.std.specs.Prelude.{◌≤◌, length};
 ghost use Rattle.std.specs.Option.{IfSome};
 
-use limit::Limit;
-
 // Nothing if a digit is none, or the number is too large. `from_str_radix` would take a sign too.
 fn number(digits: &[u8], base: u32) -> Option<u64>
     requires lower_bound { 2 ≤ base }
@@ -45,10 +43,10 @@ pub fn double(word: &[u8]) -> Option<f64> {
 }
 
 // A limit is a double, or `-` where it is absent.
-pub fn limit(word: &[u8]) -> Option<Limit> {
+pub fn limit(word: &[u8]) -> Option<Option<f64>> {
     match word {
-        b"-" => Some(Limit::Absent),
-        _ => double(word).map(Limit::Given),
+        b"-" => Some(None),
+        _ => double(word).map(Some),
     }
 }
 
