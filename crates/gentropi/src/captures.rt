@@ -2,6 +2,7 @@
 ghost use Rattle.gentropi.specs.After.{CaptureExport};
 
 use index::ModuleIdx;
+use records::Records;
 
 #[unsafe(no_mangle)]
 pub extern "C" fn gentropi_capture(
@@ -33,15 +34,18 @@ pub extern "C" fn gentropi_capture(
       scratch = scratch.new;
     }) }
 {
+    let records = Records {
+        first,
+        dependency,
+        next,
+    };
     let answer = capture::add_module_and_dependencies_to_group_recursively(
         n,
         d,
         recursive,
         ModuleIdx(from),
         flags,
-        first,
-        dependency,
-        next,
+        &records,
         marks,
         scratch,
     );
