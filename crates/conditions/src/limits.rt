@@ -14,13 +14,11 @@ fn nan_among_groups(groups: &Groups, g: usize) -> bool
     requires { HasGroups (tables_of groups.now) g }
     ensures { result ≡ any_below (λ i. nan_group (group_at (tables_of groups.now) i)) g }
 {
-    let mut i = 0;
-    while i < g {
+    for i in 0..g {
         let group = options::tables::group_at(groups, i);
         if options::nan::nan_group(group) {
             return true;
         }
-        i = i + 1;
     }
     false
 }
