@@ -44,8 +44,7 @@ fn nan_among_groups(
       threshold = threshold.now;
     }) i)) g }
 {
-    let mut i = 0;
-    while i < g {
+    for i in 0..g {
         let group = options::tables::group_at(
             given,
             min_size,
@@ -61,7 +60,6 @@ fn nan_among_groups(
         if options::nan::nan_group(group) {
             return true;
         }
-        i = i + 1;
     }
     false
 }

@@ -1,5 +1,5 @@
 -- `conditions::limits::nan_among_groups` meets its contract. The loop's invariant: no group passed has a NaN.
-use Prim.Native.Nat.{ℕ, ◌-◌, ◌≤◌, ◌<◌}
+use Prim.Native.Nat.{ℕ, ◌≤◌, ◌<◌}
 use mathlib.Core.Path.{◌≡◌}
 use mathlib.Core.Bool.{false}
 use Rattle.options.specs.Tables.{group_at}
@@ -19,6 +19,3 @@ invariant-loop-i l =
       priority = l.priority;
       threshold = l.threshold;
     }) j) ≡ false)
-
-abbrev pub decreases-loop-i : goal.decreases-loop-i
-decreases-loop-i l = l.g - l.i
