@@ -70,6 +70,7 @@ fn convert_divided(
             maximum,
         };
         store_starts(&divided[from..to], set, &mut list[..count]);
+        // The places of records are below this, so that they can be counted on.
         let _room = areas.room();
         let more = convert_item_to_chunks(
             head,

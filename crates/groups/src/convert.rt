@@ -158,6 +158,7 @@ pub fn convert_groups_to_chunks(
         let from = g * n;
         let to = from + n;
         let own = settings[g];
+        // The places of records are below this, so that they can be counted on.
         let _room = areas.room();
         made += convert_group(
             own,

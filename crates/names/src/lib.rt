@@ -160,6 +160,7 @@ pub fn convert_names(
             followed,
             set,
         );
+        // The places of records are below this, so that they can be counted on.
         let _room = areas.room();
         made += convert_set(
             settings,
