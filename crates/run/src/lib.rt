@@ -1,6 +1,7 @@
 // A run of Chunks over a build that has passed the tests: its chunks are made, and every area is written.
 #![tactic(auto)]
 
+ghost use Rattle.std.specs.Prelude.{◌≡◌, ◌≤◌, ◌++◌, length, take, drop, replicate};
 ghost use Rattle.run.specs.Made.{Making, ChunksMade};
 ghost use Rattle.run.specs.Finished.{Finishing, Finished};
 ghost use Rattle.run.specs.Ran.{Running, RunWritten};
@@ -15,6 +16,14 @@ use linking::link;
 use options::Settings;
 use records::Records;
 use turns::into_priority_sorted_groups;
+
+// No module has a chunk number yet.
+fn clear_numbers(chunk_of: &mut [u32], n: usize)
+    requires { n ≤ length chunk_of.old }
+    ensures { chunk_of.new ≡ replicate (length (take n chunk_of.old)) 0 ++ drop n chunk_of.old }
+{
+    chunk_of[..n].fill(0);
+}
 
 // Makes the chunks, over the eligible modules in execution order. Answers how many there are.
 fn make_chunks(
@@ -67,8 +76,7 @@ fn make_chunks(
 {
     let mut turns = [0u32; 64];
     into_priority_sorted_groups(settings, &mut turns[..g]);
-    let chunk_of = &mut *areas.chunk_of;
-    chunk_of[..n].fill(0);
+    clear_numbers(areas.chunk_of, n);
     convert_groups_to_chunks(
         settings,
         &turns[..g],
