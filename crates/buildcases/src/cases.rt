@@ -4,14 +4,13 @@ use buildlines::reader::{Reader, Unread};
 
 // Passes over a comment, or runs a case. There is none at the end.
 fn answer_next(reader: &mut Reader) -> Result<(), Unread> {
-    match reader.word() {
-        [] => Err(Unread),
+    match reader.word()? {
         [b'#', ..] => {
             reader.pass_line();
             Ok(())
         }
         b"chunks" => {
-            let tag = reader.word();
+            let tag = reader.word().unwrap_or(b"");
             buildtables::answer_case(Form::Text, tag, reader)
         }
         command => Err(buildtables::unread(command)),

@@ -19,7 +19,7 @@ fn read_offsets(tables: &mut ModuleTables, n: usize, reader: &mut Reader) -> Res
 
 // len TABLE LENGTH
 fn read_length(lengths: &mut Lengths, reader: &mut Reader) -> Result<(), Unread> {
-    let table = reader.word();
+    let table = reader.word()?;
     let entries = reader.decimal_within(2048)?;
     match table {
         b"flags" => lengths.flags.set(entries),
@@ -49,7 +49,7 @@ fn read_length(lengths: &mut Lengths, reader: &mut Reader) -> Result<(), Unread>
 
 // count COUNT VALUE
 fn read_count(counts: &mut Counts, reader: &mut Reader) -> Result<(), Unread> {
-    let count = reader.word();
+    let count = reader.word()?;
     let value = reader.decimal()? as usize;
     match count {
         b"n" => counts.n = value,
@@ -115,7 +115,7 @@ impl Build {
         requires { n ≤ 64 }
     {
         for _ in 0..64 {
-            match reader.word() {
+            match reader.word()? {
                 b"end" => return Ok(()),
                 step => self.read_line(step, n, reader)?,
             }

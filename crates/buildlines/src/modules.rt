@@ -7,7 +7,7 @@ use crate::tables::{Ids, ModuleTables, RecordTables};
 impl Ids {
     // One id more.
     fn read(&mut self, reader: &mut Reader) -> Result<(), Unread> {
-        self.length = reader.bytes(&mut self.bytes, self.length)?;
+        self.length += reader.bytes(&mut self.bytes[self.length..])?;
         Ok(())
     }
 }

@@ -1,8 +1,8 @@
-// The words of a text, one after another. After one that can't be read nothing can be read.
-ghost use Rattle.std.specs.Prelude.{◌≤◌, IfOk};
+// The words of a text, one after another, each as a value. After one that can't be read nothing is read.
+ghost use Rattle.std.specs.Prelude.{◌≤◌, IfOk, length};
 
-use textform::words::Stop;
-use textform::{doubles, numbers, pairs, words};
+use textform::reading::Words;
+use textform::values;
 
 // A word can't be read, or is beyond the limits.
 #[derive(Clone, Copy)]
@@ -10,48 +10,38 @@ pub struct Unread;
 
 #[derive(Drop)]
 pub struct Reader<'a> {
-    text: &'a [u8],
-    at: usize,
+    words: Words<'a>,
 }
 
 impl<'a> Reader<'a> {
     pub fn new(text: &'a [u8]) -> Self {
-        Reader { text, at: 0 }
-    }
-
-    // Goes on past a word, which leads past the text if it could not be read.
-    fn go_on(&mut self, at: usize) -> Result<(), Unread> {
-        if self.text.len() < at {
-            return Err(Unread);
+        Reader {
+            words: Words::of(text),
         }
-        self.at = at;
-        Ok(())
     }
 
-    // The next word; it is empty past the last.
-    pub fn word(&mut self) -> &'a [u8] {
-        let word = words::word(self.text, self.at);
-        self.at = word.to;
-        words::part(self.text, word)
+    // The next word.
+    pub fn word(&mut self) -> Result<&'a [u8], Unread> {
+        self.words.next().ok_or(Unread)
     }
 
     // Passes over what is left of a line.
     pub fn pass_line(&mut self) {
-        self.at = words::find(self.text, self.at, Stop::LineEnd);
+        let rest = self.words.rest;
+        let end = rest.iter().position(|byte| *byte == b'\n');
+        self.words.rest = &rest[end.unwrap_or(rest.len())..];
     }
 
     // The next word has to be this letter.
     pub fn letter(&mut self, wanted: u8) -> Result<(), Unread> {
-        match self.word() {
+        match self.word()? {
             [letter] if *letter == wanted => Ok(()),
             _ => Err(Unread),
         }
     }
 
     pub fn decimal(&mut self) -> Result<u64, Unread> {
-        let field = numbers::decimal(self.text, self.at);
-        self.go_on(field.at)?;
-        Ok(field.value)
+        self.words.decimal().ok_or(Unread)
     }
 
     pub fn decimal_within(&mut self, most: usize) -> Result<usize, Unread>
@@ -65,66 +55,54 @@ impl<'a> Reader<'a> {
     }
 
     pub fn byte(&mut self) -> Result<u8, Unread> {
-        let number = self.decimal_within(255)?;
-        Ok(number as u8)
+        self.words.byte().ok_or(Unread)
     }
 
     pub fn short(&mut self) -> Result<u32, Unread> {
-        let number = self.decimal_within(4294967295)?;
-        Ok(number as u32)
+        self.words.short().ok_or(Unread)
     }
 
     pub fn hexadecimal(&mut self) -> Result<u64, Unread> {
-        let field = numbers::hexadecimal(self.text, self.at);
-        self.go_on(field.at)?;
-        Ok(field.value)
+        self.words.hexadecimal().ok_or(Unread)
     }
 
-    // Puts the bytes of the next word into an area from a place on. Answers the place past them.
-    pub fn bytes(&mut self, area: &mut [u8; 16384], from: usize) -> Result<usize, Unread>
-        requires { from ≤ 16384 }
-        ensures { IfOk result (λ to. to ≤ 16384) }
+    // Puts the bytes that the next word stands for at the front of an area. Answers how many they are.
+    pub fn bytes(&mut self, area: &mut [u8]) -> Result<usize, Unread>
+        ensures { IfOk result (λ n. n ≤ length area.old) }
     {
-        let field = pairs::read(self.text, self.at, area, from);
-        self.go_on(field.at)?;
-        Ok(field.value as usize)
-    }
-
-    // Passes over the next word if it says that something is absent.
-    fn pass_absent(&mut self) -> bool {
-        let word = words::word(self.text, self.at);
-        let absent = words::is(words::part(self.text, word), b'-');
-        if absent {
-            self.at = word.to;
+        match self.words.bytes(area) {
+            Some(count) => Ok(count),
+            None => Err(Unread),
         }
-        absent
     }
 
     // A double, if it is given.
     pub fn limit(&mut self) -> Result<Option<f64>, Unread> {
-        if self.pass_absent() {
-            return Ok(None);
-        }
-        let field = doubles::double(self.text, self.at);
-        self.go_on(field.at)?;
-        Ok(Some(field.value))
+        self.words.limit().ok_or(Unread)
     }
 
     // A number of 32 bits, if it is given.
     pub fn share_count(&mut self) -> Result<Option<u32>, Unread> {
-        if self.pass_absent() {
+        let Some(count) = self.decimal_or_absent(u32::MAX as u64)? else {
             return Ok(None);
-        }
-        let count = self.short()?;
-        Ok(Some(count))
+        };
+        Ok(Some(count as u32))
     }
 
     // Yes or no, if it is said.
     pub fn choice(&mut self) -> Result<Option<bool>, Unread> {
-        if self.pass_absent() {
-            return Ok(None);
+        let said = self.decimal_or_absent(1)?;
+        Ok(said.map(|n| n == 1))
+    }
+
+    // A number up to a limit; nothing where the next word says that it is absent.
+    fn decimal_or_absent(&mut self, most: u64) -> Result<Option<u64>, Unread> {
+        match self.word()? {
+            b"-" => Ok(None),
+            word => match values::decimal(word) {
+                Some(number) if number <= most => Ok(Some(number)),
+                _ => Err(Unread),
+            },
         }
-        let said = self.decimal_within(1)?;
-        Ok(Some(said == 1))
     }
 }

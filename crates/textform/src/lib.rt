@@ -3,9 +3,6 @@
 
 pub mod doubles;
 pub mod entries;
-pub mod numbers;
 pub mod out;
-pub mod pairs;
 pub mod reading;
 pub mod values;
-pub mod words;
