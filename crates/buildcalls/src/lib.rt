@@ -3,9 +3,9 @@
 
 mod chunk_list;
 
-use crate::chunk_list::ChunkList;
 use buildlines::counts::Lent;
 use listform::areas;
+use listform::list::ChunkList;
 use plainsplit::{Areas, Build};
 
 // How the answer is printed: in the text form, with what the areas show to be wrong, or as a table of the chunks.
@@ -50,7 +50,10 @@ pub fn answer(form: Form, tag: &[u8], build: Build, lent: Lent) {
         scratch: &scratch,
     };
     match form {
-        Form::Text => list.show_text(tag, answer, build.counts.n.min(128), lent.scratch),
-        Form::Table => list.show_table(answer),
+        Form::Text => {
+            let n = build.counts.n.min(128);
+            chunk_list::show_text(list, tag, answer, n, lent.scratch);
+        }
+        Form::Table => chunk_list::show_table(list, answer),
     }
 }
