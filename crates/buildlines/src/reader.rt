@@ -83,26 +83,30 @@ impl<'a> Reader<'a> {
 
     // A number of 32 bits, if it is given.
     pub fn share_count(&mut self) -> Result<Option<u32>, Unread> {
-        let Some(count) = self.decimal_or_absent(u32::MAX as u64)? else {
+        let Some(number) = self.decimal_or_absent()? else {
             return Ok(None);
         };
-        Ok(Some(count as u32))
+        match u32::try_from(number) {
+            Ok(count) => Ok(Some(count)),
+            Err(_) => Err(Unread),
+        }
     }
 
     // Yes or no, if it is said.
     pub fn choice(&mut self) -> Result<Option<bool>, Unread> {
-        let said = self.decimal_or_absent(1)?;
-        Ok(said.map(|n| n == 1))
+        match self.decimal_or_absent()? {
+            None => Ok(None),
+            Some(0) => Ok(Some(false)),
+            Some(1) => Ok(Some(true)),
+            Some(_) => Err(Unread),
+        }
     }
 
-    // A number up to a limit; nothing where the next word says that it is absent.
-    fn decimal_or_absent(&mut self, most: u64) -> Result<Option<u64>, Unread> {
+    // A number; nothing where the next word says that it is absent.
+    fn decimal_or_absent(&mut self) -> Result<Option<u64>, Unread> {
         match self.word()? {
             b"-" => Ok(None),
-            word => match values::decimal(word) {
-                Some(number) if number <= most => Ok(Some(number)),
-                _ => Err(Unread),
-            },
+            word => values::decimal(word).map(Some).ok_or(Unread),
         }
     }
 }
