@@ -59,12 +59,12 @@ pub fn split(build: Build, areas: Areas) -> Result<usize, Refusal> {
         scratch,
     } = areas;
     let mut lent = ChunkAreas {
-        chunk_of,
-        group_of,
-        name_of,
-        size_of,
-        bits_of,
-        mark_of,
+        chunk_of: &mut *chunk_of,
+        group_of: &mut *group_of,
+        name_of: &mut *name_of,
+        size_of: &mut *size_of,
+        bits_of: &mut *bits_of,
+        mark_of: &mut *mark_of,
     };
     let Counts {
         n,

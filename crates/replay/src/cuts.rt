@@ -12,8 +12,7 @@ use withlines::Form;
 #[derive(Drop)]
 struct Call<'a> {
     n: usize,
-    ids: &'a [u8],
-    offsets: &'a [u32],
+    ids: Ids<'a>,
     sizes: &'a [u64],
     minimum: f64,
     maximum: f64,
@@ -30,7 +29,7 @@ fn read_modules(
     ensures { IfSome result (λ n. n ≤ 16384) }
 {
     let mut end = 0;
-    'modules: for (offset, size) in offsets.iter_mut().zip(sizes.iter_mut()) {
+    for (offset, size) in offsets.iter_mut().zip(sizes.iter_mut()) {
         end += words.bytes(&mut ids[end..])?;
         *offset = end as u32;
         *size = words.decimal()?;
@@ -74,8 +73,10 @@ pub fn answer(tag: &[u8], mut words: Words, with: &[&[u8]]) -> Option<()> {
     out::begin(b"cut", tag);
     let call = Call {
         n,
-        ids: &ids[..bytes],
-        offsets: &offsets,
+        ids: Ids {
+            bytes: &ids[..bytes],
+            offsets: &offsets,
+        },
         sizes: &sizes,
         minimum,
         maximum,
@@ -88,8 +89,8 @@ pub fn answer(tag: &[u8], mut words: Words, with: &[&[u8]]) -> Option<()> {
 fn run(with: &[&[u8]], call: &Call) {
     let n = call.n;
     let ids = Ids {
-        bytes: call.ids,
-        offsets: entries::front(call.offsets, withlines::length(with, b"offsets", n + 1)),
+        bytes: call.ids.bytes,
+        offsets: entries::front(call.ids.offsets, withlines::length(with, b"offsets", n + 1)),
     };
     let answer = cut::pick_relevance_split_index(
         withlines::count(with, b"n", n),
