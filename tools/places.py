@@ -97,7 +97,7 @@ POINTS = [
     ("1 places that say that there is nothing", lines_with(r"\bNOWHERE\b")),
     ("2 twins", twins),
     ("3 loops that count an index", counted),
-    ("3 other loops by while", lambda files: (it for it in lines_with(r"^ *('\w+: )?while ")(files))),
+    ("3 loops by while, all", lines_with(r"^ *('\w+: )?while ")),
     ("4 copies, zeros, equality and order by hand", lines_with(r"\bfn (copy_|clear_|id_before|same_|is_same|common_length|fewer|least|is\()\w*")),
     ("5 functions of eight parameters or more", wide),
     ("6 arrays of a fixed length as parameters", lines_with(r": &(mut )?\[\w+; \d+\]")),
