@@ -4,9 +4,10 @@
 mod chunk_list;
 
 use buildlines::counts::Lent;
+use emitting::ChunkAreas;
 use listform::areas;
 use listform::list::ChunkList;
-use plainsplit::{Areas, Build};
+use plainsplit::Build;
 
 // How the answer is printed: in the text form, with what the areas show to be wrong, or as a table of the chunks.
 #[derive(Clone, Copy)]
@@ -26,18 +27,21 @@ pub fn answer(form: Form, tag: &[u8], build: Build, lent: Lent) {
     let mut bits_of = [areas::WORD; 512];
     let mut mark_of = [areas::BYTE; 128];
     let mut scratch = [areas::NUMBER; 73728];
-    let lent_areas = Areas {
+    let mut chunks = ChunkAreas {
         chunk_of: areas::lent(&mut chunk_of, lent.chunk_of),
-        next_of: areas::lent(&mut next_of, lent.next_of),
-        first_of: areas::lent(&mut first_of, lent.first_of),
         group_of: areas::lent(&mut group_of, lent.group_of),
         name_of: areas::lent(&mut name_of, lent.name_of),
         size_of: areas::lent(&mut size_of, lent.size_of),
         bits_of: areas::lent(&mut bits_of, lent.bits_of),
         mark_of: areas::lent(&mut mark_of, lent.mark_of),
-        scratch: areas::lent(&mut scratch, lent.scratch),
     };
-    let answer = plainsplit::split(build, lent_areas);
+    let answer = plainsplit::split(
+        build,
+        &mut chunks,
+        areas::lent(&mut next_of, lent.next_of),
+        areas::lent(&mut first_of, lent.first_of),
+        areas::lent(&mut scratch, lent.scratch),
+    );
     let list = ChunkList {
         chunk_of: &chunk_of,
         next_of: &next_of,

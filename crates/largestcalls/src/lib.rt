@@ -1,6 +1,7 @@
 // One call of Chunks with the tables of the largest build, and its answer.
 #![tactic(auto)]
 
+use emitting::ChunkAreas;
 use largesttables::change::Change;
 use largesttables::counts;
 use listform::areas;
@@ -18,18 +19,21 @@ pub fn answer(change: Change, build: Build) {
     let mut bits_of = [areas::WORD; 16396];
     let mut mark_of = [areas::BYTE; 4099];
     let mut scratch = [areas::NUMBER; 393219];
-    let lent_areas = plainsplit::Areas {
+    let mut chunks = ChunkAreas {
         chunk_of: areas::lent(&mut chunk_of, lent.chunk_of),
-        next_of: areas::lent(&mut next_of, lent.next_of),
-        first_of: areas::lent(&mut first_of, lent.first_of),
         group_of: areas::lent(&mut group_of, lent.group_of),
         name_of: areas::lent(&mut name_of, lent.name_of),
         size_of: areas::lent(&mut size_of, lent.size_of),
         bits_of: areas::lent(&mut bits_of, lent.bits_of),
         mark_of: areas::lent(&mut mark_of, lent.mark_of),
-        scratch: areas::lent(&mut scratch, lent.scratch),
     };
-    let answer = plainsplit::split(build, lent_areas);
+    let answer = plainsplit::split(
+        build,
+        &mut chunks,
+        areas::lent(&mut next_of, lent.next_of),
+        areas::lent(&mut first_of, lent.first_of),
+        areas::lent(&mut scratch, lent.scratch),
+    );
     let held = largestlist::areas::Areas {
         chunk_of: &chunk_of,
         next_of: &next_of,

@@ -31,41 +31,14 @@ pub struct Build<'a> {
     pub answers: &'a [u32],
 }
 
-// The areas that are lent.
-#[derive(Drop)]
-pub struct Areas<'a> {
-    pub chunk_of: &'a mut [u32],
-    pub next_of: &'a mut [u32],
-    pub first_of: &'a mut [u32],
-    pub group_of: &'a mut [u32],
-    pub name_of: &'a mut [u32],
-    pub size_of: &'a mut [f64],
-    pub bits_of: &'a mut [u64],
-    pub mark_of: &'a mut [u8],
-    pub scratch: &'a mut [u32],
-}
-
 // Answers how many chunks there are.
-pub fn split(build: Build, areas: Areas) -> Result<usize, Refusal> {
-    let Areas {
-        chunk_of,
-        next_of,
-        first_of,
-        group_of,
-        name_of,
-        size_of,
-        bits_of,
-        mark_of,
-        scratch,
-    } = areas;
-    let mut lent = ChunkAreas {
-        chunk_of: &mut *chunk_of,
-        group_of: &mut *group_of,
-        name_of: &mut *name_of,
-        size_of: &mut *size_of,
-        bits_of: &mut *bits_of,
-        mark_of: &mut *mark_of,
-    };
+pub fn split(
+    build: Build,
+    chunks: &mut ChunkAreas,
+    next_of: &mut [u32],
+    first_of: &mut [u32],
+    scratch: &mut [u32],
+) -> Result<usize, Refusal> {
     let Counts {
         n,
         g,
@@ -101,7 +74,7 @@ pub fn split(build: Build, areas: Areas) -> Result<usize, Refusal> {
         &build.groups,
         build.answers,
         on_entry,
-        &mut lent,
+        chunks,
         next_of,
         first_of,
         scratch,

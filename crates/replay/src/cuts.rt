@@ -29,7 +29,7 @@ fn read_modules(
     ensures { IfSome result (λ n. n ≤ 16384) }
 {
     let mut end = 0;
-    for (offset, size) in offsets.iter_mut().zip(sizes.iter_mut()) {
+    'modules: for (offset, size) in offsets.iter_mut().zip(sizes.iter_mut()) {
         end += words.bytes(&mut ids[end..])?;
         *offset = end as u32;
         *size = words.decimal()?;
