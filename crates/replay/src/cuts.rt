@@ -12,7 +12,6 @@ use withlines::Form;
 #[derive(Drop)]
 struct Call<'a> {
     n: usize,
-    ids: Ids<'a>,
     sizes: &'a [u64],
     minimum: f64,
     maximum: f64,
@@ -73,24 +72,20 @@ pub fn answer(tag: &[u8], mut words: Words, with: &[&[u8]]) -> Option<()> {
     out::begin(b"cut", tag);
     let call = Call {
         n,
-        ids: Ids {
-            bytes: &ids[..bytes],
-            offsets: &offsets,
-        },
         sizes: &sizes,
         minimum,
         maximum,
     };
-    run(with, &call);
+    run(with, &call, &ids[..bytes], &offsets);
     Some(())
 }
 
 // The call and its answer.
-fn run(with: &[&[u8]], call: &Call) {
+fn run(with: &[&[u8]], call: &Call, bytes: &[u8], offsets: &[u32]) {
     let n = call.n;
     let ids = Ids {
-        bytes: call.ids.bytes,
-        offsets: entries::front(call.ids.offsets, withlines::length(with, b"offsets", n + 1)),
+        bytes,
+        offsets: entries::front(offsets, withlines::length(with, b"offsets", n + 1)),
     };
     let answer = cut::pick_relevance_split_index(
         withlines::count(with, b"n", n),
