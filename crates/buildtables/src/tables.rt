@@ -3,9 +3,8 @@ use buildform::Build;
 use buildform::lengths::Lengths;
 use buildlines::tables;
 use buildlines::tables::prefix;
-use ids::parts::Ids;
 use options::tables::Groups;
-use plainsplit::ModuleTables;
+use plainsplit::{ModuleTables, ids_of};
 use records::Records;
 
 fn modules<'a>(read: &'a tables::Tables, lengths: &Lengths) -> ModuleTables<'a> {
@@ -16,10 +15,10 @@ fn modules<'a>(read: &'a tables::Tables, lengths: &Lengths) -> ModuleTables<'a> 
         shares: prefix(&read.modules.shares, lengths.shares.entries),
         tags: prefix(&read.modules.tags, lengths.tags.entries),
         bits: prefix(&read.modules.bits, lengths.bits.entries),
-        ids: Ids {
-            bytes: prefix(&read.ids.bytes, read.ids.length),
-            offsets: prefix(&read.modules.offsets, lengths.offsets.entries),
-        },
+        ids: ids_of(
+            prefix(&read.ids.bytes, read.ids.length),
+            prefix(&read.modules.offsets, lengths.offsets.entries),
+        ),
     }
 }
 

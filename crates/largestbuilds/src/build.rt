@@ -4,12 +4,11 @@ ghost use Rattle.std.specs.Prelude.{◌≤◌};
 use buildlines::counts::Counts;
 use buildlines::given::GivenOptions;
 use buildlines::tables::prefix;
-use ids::parts::Ids;
 use largesttables::change::Change;
 use largesttables::counts;
 use largesttables::tables::Tables;
 use options::tables::Groups;
-use plainsplit::{Build, ModuleTables};
+use plainsplit::{Build, ModuleTables, ids_of};
 use records::Records;
 
 // What is absent or zero everywhere is one table for all.
@@ -30,10 +29,10 @@ fn modules<'a>(tables: &'a Tables, n: usize) -> ModuleTables<'a>
         shares: prefix(&NUMBERS, n),
         tags: prefix(&WORDS, n),
         bits: prefix(&tables.bits, 4 * n),
-        ids: Ids {
-            bytes: prefix(&tables.ids, 2 * n + 1022),
-            offsets: prefix(&tables.offsets, n + 1),
-        },
+        ids: ids_of(
+            prefix(&tables.ids, 2 * n + 1022),
+            prefix(&tables.offsets, n + 1),
+        ),
     }
 }
 

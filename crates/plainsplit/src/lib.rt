@@ -31,6 +31,11 @@ pub struct Build<'a> {
     pub answers: &'a [u32],
 }
 
+// The table of ids over its two slices.
+pub fn ids_of<'a>(bytes: &'a [u8], offsets: &'a [u32]) -> Ids<'a> {
+    Ids { bytes, offsets }
+}
+
 // Answers how many chunks there are.
 pub fn split(
     build: Build,
