@@ -2,6 +2,8 @@
 ghost use Rattle.std.specs.Prelude.{◌≤◌, length};
 ghost use Rattle.chunk_names.specs.Append.{Appended};
 
+use lists::copy::copy;
+
 // Puts a part behind the first `at` bytes of the area and answers where what the area holds then ends.
 pub fn append(area: &mut [u8], at: usize, part: &[u8]) -> usize
     requires { at ≤ length area.old }
@@ -9,6 +11,6 @@ pub fn append(area: &mut [u8], at: usize, part: &[u8]) -> usize
 {
     let count = (area.len() - at).min(part.len());
     let end = at + count;
-    area[at..end].copy_from_slice(&part[..count]);
+    copy(&part[..count], &mut area[at..end]);
     end
 }

@@ -8,6 +8,7 @@ pub mod tables;
 ghost use Rattle.std.specs.Prelude.{◌≡◌, ℕ};
 ghost use Rattle.merge.specs.Call.{written, Ready, MergeCall};
 
+use lists::copy::copy;
 use refusal::Refusal;
 
 // The tests have passed: the tables are copied into the areas, and merged there. Entries past k stay.
@@ -38,8 +39,8 @@ fn merge_into(
     }) }
 {
     let words = 4 * k;
-    final_sizes[..k].copy_from_slice(sizes);
-    final_bits[..words].copy_from_slice(bits);
+    copy(sizes, &mut final_sizes[..k]);
+    copy(bits, &mut final_bits[..words]);
     engine::merge_in_place(
         &mut final_numbers[..k],
         &mut final_sizes[..k],

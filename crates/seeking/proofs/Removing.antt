@@ -7,8 +7,8 @@ use native.Mathlib.Nat.{not-suc-le-zero, le_of_suc-le-suc}
 use native.Mathlib.Omega.{arith}
 use borrow.Author.Tests.{eq-eqb, ne_eqb}
 use lib.Dec.{eqb}
-use lib.ListN.{length, get_or, take, drop, length-append, length-take, length-drop}
-use lib.Seq.{length-take-le, take_at, take_all, paste, take-paste, get_or-append-add, get_or-drop, get_or-take}
+use lib.ListN.{length, get_or, set, take, drop, length-set, length-append, length-take, length-drop}
+use lib.Seq.{length-take-le, take-suc, take_at, take_all, take-suc-set, get_or-set_other, get_or-append-add, get_or-drop, get_or-take}
 use Rattle.lists.specs.Keep.{keep, keep_head}
 use Rattle.lists.proofs.Sort.{more}
 use Rattle.lists.proofs.Distinct.{Distinct}
@@ -63,17 +63,52 @@ but_one_lem (x ∷ l) (more f r) (suc i) h =
 pub without_number : (l : List ℕ) (number place : ℕ) → Distinct l → StandsAt l number place → without place l ≡ but_one number l
 without_number l number place d at = sym (but_one_lem l d place at.inside) ∙ ap (λ n. but_one n l) at.its
 
--- ---- what follows a place moves up by one
+-- ---- while the places take over: those from the first up to i have, the others hold what they had
 
-pub closed_up : (l : List ℕ) (place : ℕ) → place < length l
-    → take (length l - 1) (paste l place (drop (place + 1) l) (length l - (place + 1))) ≡ without place l
-unfolding without
-closed_up l place h =
-    let later = drop (place + 1) l in
-    let n = length l - (place + 1) in
-    let long : length later ≡ n = simp length-drop refl in
-    let all : length l - 1 ≡ place + n = omega arith in
-    let next : place + 1 ≡ suc place = omega arith in
-    ap (λ k. take k (paste l place later n)) all
-    ∙ take-paste l place later n (omega arith) (omega (arith, long))
-    ∙ ap (λ t. take place l ++ t) (take_all n later (omega (arith, long)) ∙ ap (λ k. drop k l) next)
+pub record Closing (l : List ℕ) (place : ℕ) (list : List ℕ) (i : ℕ) : Type 0 where
+  pub from : place ≤ i
+  pub most : i < length l
+  pub same_length : length list ≡ length l
+  pub closed : take i list ≡ take i (without place l)
+  pub rest : (k : ℕ) → i ≤ k → get_or list k 0 ≡ get_or l k 0
+
+module _ (l : List ℕ) (place : ℕ) (h : place < length l) where
+  pub closing_starts : Closing l place l place
+  unfolding without
+  closing_starts =
+      let front : length (take place l) ≡ place = length-take-le place l (omega arith) in
+      record {
+        from = omega arith;
+        most = h;
+        same_length = refl;
+        closed = sym (take_at (take place l) (drop (suc place) l) place front);
+        rest = λ k b. refl;
+      }
+
+  module _ (list : List ℕ) (i : ℕ) (c : Closing l place list i) where
+    pub closing_on : i < length l - 1 → Closing l place (set list i (get_or list (i + 1) 0)) (i + 1)
+    closing_on b =
+        let next : i + 1 ≡ suc i = omega arith in
+        let v = get_or list (i + 1) 0 in
+        let is-v : v ≡ get_or (without place l) i 0 =
+        c.rest (i + 1) (omega arith) ∙ ap (λ n. get_or l n 0) next ∙ sym (without_after l place h i c.from) in
+        record {
+          from = omega (arith, c.from);
+          most = omega arith;
+          same_length = length-set list i v ∙ c.same_length;
+          closed =
+              ap (λ n. take n (set list i v)) next
+              ∙ take-suc-set list i v (omega (arith, c.same_length))
+              ∙ ap (λ t. t ++ (v ∷ [])) c.closed
+              ∙ ap (λ x. take i (without place l) ++ (x ∷ [])) is-v
+              ∙ sym (take-suc (without place l) i 0 (omega (arith, length_without l place h)))
+              ∙ ap (λ n. take n (without place l)) (sym next);
+          rest = λ k g. get_or-set_other list i k v 0 (λ e. omega arith) ∙ c.rest k (omega arith);
+        }
+
+    pub closing_ends : length l - 1 ≤ i → take (length l - 1) list ≡ without place l
+    closing_ends b =
+        let last : length l - 1 ≡ i = omega (arith, c.most) in
+        ap (λ n. take n list) last
+        ∙ c.closed
+        ∙ take_all i (without place l) (omega (arith, length_without l place h))

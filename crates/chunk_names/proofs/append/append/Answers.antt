@@ -5,4 +5,4 @@ use Rattle.chunk_names.proofs.append.append.Goals as goal
 pub returns : goal.returns
 returns c =
     let a = c.args in
-    appended a.area.now a.part.now a.at c.min-count.result c.min-count.ensures c.copy_from_slice.new.self c.copy_from_slice.ensures.after
+    appended a.area.now a.part.now a.at c.min-count.result c.min-count.ensures c.copy.new.to c.copy.ensures
