@@ -2,7 +2,7 @@
 ghost use Rattle.std.specs.Prelude.{◌≤◌, length};
 ghost use Rattle.chunk_names.specs.Append.{Appended};
 
-use lists::copy::copy;
+use copying::copy;
 
 // Puts a part behind the first `at` bytes of the area and answers where what the area holds then ends.
 pub fn append(area: &mut [u8], at: usize, part: &[u8]) -> usize

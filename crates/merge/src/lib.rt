@@ -8,7 +8,7 @@ pub mod tables;
 ghost use Rattle.std.specs.Prelude.{◌≡◌, ℕ};
 ghost use Rattle.merge.specs.Call.{written, Ready, MergeCall};
 
-use lists::copy::copy;
+use copying::copy;
 use refusal::Refusal;
 
 // The tests have passed: the tables are copied into the areas, and merged there. Entries past k stay.

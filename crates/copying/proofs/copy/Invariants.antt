@@ -1,7 +1,7 @@
--- `lists::copy::copy` meets its contract: one element more a turn.
+-- `copying::copy` meets its contract: one element more a turn.
 use Rattle.std.proofs.Common.{◌≡◌, length}
 use lib.ListN.{take}
-use Rattle.lists.proofs.copy.copy.Given as goal
+use Rattle.copying.proofs.copy.Given as goal
 
 abbrev pub invariant-loop-i : goal.invariant-loop-i
 invariant-loop-i g l = (length l.to ≡ length l.from) × (take l.i l.to ≡ take l.i l.from)

@@ -1,4 +1,7 @@
-// A slice copied over one of its length, by a loop: the compiler then knows that the two don't overlap, and asks hosts for no more than `memcpy`.
+// A slice copied over one of its length. By a loop, which the compiler makes a `memcpy`: the slices' own method is a `memmove`, which hosts don't
+// supply.
+#![tactic(auto)]
+
 ghost use Rattle.std.specs.Prelude.{◌≡◌, length};
 
 pub fn copy<T: Copy>(from: &[T], to: &mut [T])
