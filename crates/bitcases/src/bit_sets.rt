@@ -2,18 +2,12 @@
 use bitset::entries::BitSet;
 use textform::out;
 
-fn word(n: u64) {
-    out::blank();
-    out::number(n);
-}
-
 fn show(label: &[u8], set: BitSet) {
-    let words = set.words;
     out::begin(b"bits", label);
-    word(words[0]);
-    word(words[1]);
-    word(words[2]);
-    word(words[3]);
+    for word in &set.words {
+        out::blank();
+        out::number(*word);
+    }
     out::line_end();
 }
 
@@ -27,13 +21,11 @@ fn truth(label: &[u8], holds: bool) {
 }
 
 fn outer() -> BitSet {
-    let set = BitSet::new().set_bit(0);
-    set.set_bit(255)
+    BitSet::new().set_bit(0).set_bit(255)
 }
 
 fn inner() -> BitSet {
-    let set = BitSet::new().set_bit(63);
-    set.set_bit(64)
+    BitSet::new().set_bit(63).set_bit(64)
 }
 
 pub fn sets() {
@@ -43,7 +35,7 @@ pub fn sets() {
     show(b"united:", outer().union(inner()));
     out::text(b"bits that differ: ");
     let both = outer().union(inner());
-    out::number(both.symmetric_difference_count(outer()) as u64);
+    out::number(both.symmetric_difference_count(outer()));
     out::line_end();
 }
 

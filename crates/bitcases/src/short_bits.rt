@@ -1,6 +1,6 @@
 // Two subgroups of which the first would join the second. The areas hold a pattern before the call and after it.
 use listform::areas;
-use merge::MergeAnswer;
+use refusal::Refusal;
 use tablecalls::looks;
 use textform::out;
 
@@ -19,15 +19,15 @@ pub fn merge() {
         &mut bits,
     );
     show(answer);
-    looks::numbers(b"merge", b"numbers were written", &numbers, 0);
-    looks::words(b"merge", b"sizes were written", &sizes, 0);
-    looks::words(b"merge", b"bits were written", &bits, 0);
+    looks::untouched(b"merge", b"numbers were written", &numbers, 0);
+    looks::untouched(b"merge", b"sizes were written", &sizes, 0);
+    looks::untouched(b"merge", b"bits were written", &bits, 0);
 }
 
-fn show(answer: MergeAnswer) {
+fn show(answer: Result<(), Refusal>) {
     out::text(b"merge bits one word short");
     match answer {
-        MergeAnswer::Refused(number) => out::refused(number),
-        MergeAnswer::Done => out::text(b" done\n"),
+        Err(refusal) => out::refused(refusal.number()),
+        Ok(()) => out::text(b" done\n"),
     }
 }

@@ -1,9 +1,10 @@
 -- Rows in a table of four words a row: four stores write a row, what each row is once one was written, and all rows together are the table.
-use Prim.Native.Nat.{ℕ, zero, suc, ◌+◌, ◌*◌, ◌≤◌, ◌<◌}
+use Prim.Native.Nat.{ℕ, zero, suc, ◌+◌, ◌-◌, ◌*◌, ◌≤◌, ◌<◌}
 use mathlib.Core.List.{List, [], ◌∷◌, ◌++◌, append_assoc, foldr, Memᴰ}
-use mathlib.Core.Path.{◌≡◌, refl, sym, ap, ◌∙◌}
+use mathlib.Core.Path.{◌≡◌, refl, sym, ap, ap₂, ◌∙◌}
 use native.Mathlib.Numerals.{add-one, add-two, add-three}
 use native.Mathlib.Omega.{arith}
+use borrow.Rule.Slice.PartMut.{put_mid, Post-is}
 use lib.ListN.{length, get_or, set, take, drop, length-append}
 use lib.Seq.{drop_at, length-take-le, get_or-set_other, take-add, take_all, drop-drop}
 use Rattle.lists.specs.Area.{placed}
@@ -18,6 +19,24 @@ use Rattle.bitset.specs.Rows.{words_of, with_row}
 pub four_stores : (table : List ℕ) (at : ℕ) (s : BitSet) → at + 4 ≤ length table
     → set (set (set (set table at (word_at s 0)) (at + 1) (word_at s 1)) (at + 2) (word_at s 2)) (at + 3) (word_at s 3) ≡ placed at (words_of s) table
 four_stores table at s h = rw (add-one at, add-two at, add-three at) (sets_placed (words_of s) table at h)
+
+-- a set of four words is its four words
+pub four_words : (s : BitSet) → length s.words ≡ 4 → words_of s ≡ s.words
+four_words s = go s.words
+  where
+    go : (l : List ℕ) → length l ≡ 4 → get_or l 0 0 ∷ get_or l 1 0 ∷ get_or l 2 0 ∷ get_or l 3 0 ∷ [] ≡ l
+    go [] e = absurd (omega arith)
+    go (a ∷ []) e = absurd (omega arith)
+    go (a ∷ b ∷ []) e = absurd (omega arith)
+    go (a ∷ b ∷ c ∷ []) e = absurd (omega arith)
+    go (a ∷ b ∷ c ∷ d ∷ []) e = refl
+    go (a ∷ b ∷ c ∷ d ∷ f ∷ l) e = absurd (omega arith)
+
+-- the words of a set copied over a row
+pub row_copied : (table : List ℕ) (at : ℕ) (s : BitSet) → length s.words ≡ 4 → (part : List ℕ) → part ≡ s.words → at + 4 ≤ length table
+    → put_mid at (at + 4 - at) table part ≡ placed at (words_of s) table
+row_copied table at s four part e h =
+    ap₂ (λ (x y : List ℕ). take at table ++ (x ++ y)) (e ∙ sym (four_words s four)) (Post-is at (at + 4) table (omega arith))
 
 module _ (table : List ℕ) (i : ℕ) (s : BitSet) (h : 4 * i + 4 ≤ length table) where
   stores : List ℕ
@@ -82,18 +101,6 @@ same_rows f g a (suc k) h =
     ∙ ap (λ t. (g a).words ++ t) (same_rows f g (suc a) k (λ i l u. h i (omega arith) (omega arith)))
 
 -- ---- the words of sets, one after the other
-
--- a set of four words is its four words
-pub four_words : (s : BitSet) → length s.words ≡ 4 → words_of s ≡ s.words
-four_words s = go s.words
-  where
-    go : (l : List ℕ) → length l ≡ 4 → get_or l 0 0 ∷ get_or l 1 0 ∷ get_or l 2 0 ∷ get_or l 3 0 ∷ [] ≡ l
-    go [] e = absurd (omega arith)
-    go (a ∷ []) e = absurd (omega arith)
-    go (a ∷ b ∷ []) e = absurd (omega arith)
-    go (a ∷ b ∷ c ∷ []) e = absurd (omega arith)
-    go (a ∷ b ∷ c ∷ d ∷ []) e = refl
-    go (a ∷ b ∷ c ∷ d ∷ f ∷ l) e = absurd (omega arith)
 
 module _ {A : Type 0} (words : A → List ℕ) where
   abbrev pub all_words : List A → List ℕ

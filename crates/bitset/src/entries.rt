@@ -2,7 +2,9 @@
 ghost use Rattle.std.specs.Prelude.{◌≡◌, ◌<◌};
 ghost use Rattle.bitset.specs.Entries.{empty, has_bit, with_bit, union_of, differing, beyond};
 
-#[derive(Clone, Copy)]
+use crate::word::{any_from, test_bit};
+
+#[derive(Clone, Copy, PartialEq, Eq)]
 pub struct BitSet {
     pub words: [u64; 4],
 }
@@ -22,7 +24,7 @@ impl BitSet {
     {
         let words = self.words;
         let at = entry / 64;
-        crate::word::test_bit(words[at], entry % 64)
+        test_bit(words[at], entry % 64)
     }
 
     pub fn set_bit(self, entry: usize) -> BitSet
@@ -31,7 +33,7 @@ impl BitSet {
     {
         let mut words = self.words;
         let at = entry / 64;
-        words[at] = words[at] | (1u64 << (entry % 64));
+        words[at] |= 1u64 << (entry % 64);
         BitSet { words }
     }
 
@@ -51,10 +53,10 @@ impl BitSet {
     {
         let a = self.words;
         let b = other.words;
-        u64::count_ones(a[0] ^ b[0])
-            + u64::count_ones(a[1] ^ b[1])
-            + u64::count_ones(a[2] ^ b[2])
-            + u64::count_ones(a[3] ^ b[3])
+        (a[0] ^ b[0]).count_ones()
+            + (a[1] ^ b[1]).count_ones()
+            + (a[2] ^ b[2]).count_ones()
+            + (a[3] ^ b[3]).count_ones()
     }
 
     // Refusal 9: an entry at or above the count of entries.
@@ -62,15 +64,9 @@ impl BitSet {
         ensures { result ≡ beyond entries self }
     {
         let words = self.words;
-        if crate::word::any_from(words[0], 0, entries) {
-            return true;
-        }
-        if crate::word::any_from(words[1], 64, entries) {
-            return true;
-        }
-        if crate::word::any_from(words[2], 128, entries) {
-            return true;
-        }
-        crate::word::any_from(words[3], 192, entries)
+        any_from(words[0], 0, entries)
+            || any_from(words[1], 64, entries)
+            || any_from(words[2], 128, entries)
+            || any_from(words[3], 192, entries)
     }
 }

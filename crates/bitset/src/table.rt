@@ -21,12 +21,8 @@ pub fn store_row(table: &mut [u64], i: usize, set: BitSet)
     requires { 4 * i + 4 ≤ length table.old }
     ensures { table.new ≡ with_row table.old i set }
 {
-    let words = set.words;
     let at = 4 * i;
-    table[at] = words[0];
-    table[at + 1] = words[1];
-    table[at + 2] = words[2];
-    table[at + 3] = words[3];
+    table[at..at + 4].copy_from_slice(&set.words);
 }
 
 // Refusal 9 over a table of n rows: an entry at or above the count of entries.
@@ -34,13 +30,10 @@ pub fn any_bit_from(table: &[u64], n: usize, entries: usize) -> bool
     requires { 4 * n ≤ length table.now }
     ensures { result ≡ any_beyond entries table.now n }
 {
-    let mut k = 0;
-    while k < n {
-        let bits = row(table, k);
-        if bits.has_bit_from(entries) {
+    for k in 0..n {
+        if row(table, k).has_bit_from(entries) {
             return true;
         }
-        k = k + 1;
     }
     false
 }

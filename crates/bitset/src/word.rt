@@ -25,8 +25,5 @@ pub fn any_from(word: u64, base: usize, from: usize) -> bool
         return word != 0;
     }
     let low = from - base;
-    if 64 <= low {
-        return false;
-    }
-    word >> low != 0
+    low < 64 && word >> low != 0
 }

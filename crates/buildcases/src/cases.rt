@@ -1,32 +1,28 @@
 // The cases of a text, one after another. What can't be read is told by a line that begins with `!`, and ends the text.
 use buildcalls::Form;
-use textform::words;
-use textform::words::Stop;
+use buildlines::reader::{Reader, Unread};
 
-// Passes over a comment, or runs a case. Answers the place past it, or one past the text at its end.
-fn answer_next(text: &[u8], at: usize) -> usize {
-    let first = words::word(text, at);
-    let command = words::part(text, first);
-    if command.len() == 0 {
-        return words::NOWHERE;
+// Passes over a comment, or runs a case. There is none at the end.
+fn answer_next(reader: &mut Reader) -> Result<(), Unread> {
+    match reader.word()? {
+        [b'#', ..] => {
+            reader.pass_line();
+            Ok(())
+        }
+        b"chunks" => {
+            let tag = reader.word().unwrap_or(b"");
+            buildtables::answer_case(Form::Text, tag, reader)
+        }
+        command => Err(buildtables::unread(command)),
     }
-    if command[0] == b'#' {
-        return words::find(text, first.to, Stop::LineEnd);
-    }
-    if !check::same(command, b"chunks") {
-        return buildtables::unread(command);
-    }
-    let tag = words::word(text, first.to);
-    buildtables::answer_case(Form::Text, text, words::part(text, tag), tag.to)
 }
 
+// A case or a comment has a byte at least, so that there are no more of them than bytes.
 pub fn answer_all(text: &[u8]) {
-    let mut at = 0;
-    while at < text.len() {
-        let next = answer_next(text, at);
-        if next <= at {
+    let mut reader = Reader::new(text);
+    for _ in 0..text.len() {
+        if answer_next(&mut reader).is_err() {
             return;
         }
-        at = next;
     }
 }

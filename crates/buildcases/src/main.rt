@@ -6,12 +6,15 @@
 
 mod cases;
 
+use buildlines::tables::prefix;
+
+// The array as a reference: a function that holds it and takes a part of it is checked for minutes.
 fn read_input(input: &mut [u8; 1048576]) -> usize {
     io::read_full(0, input)
 }
 
 fn answer_input(input: &[u8; 1048576], n: usize) {
-    cases::answer_all(textform::entries::bytes(input, n));
+    cases::answer_all(prefix(input, n));
 }
 
 fn main() {

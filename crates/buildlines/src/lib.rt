@@ -1,9 +1,9 @@
-// The lines of a whole build in the text form, read into rows of tables. They are read word by word; how words fall into lines is not looked
-// at.
+// The lines of a whole build in the text form, read into tables. They are read word by word; how words fall into lines is not looked at.
 #![tactic(auto)]
 
-pub mod entries;
-pub mod fields;
+pub mod counts;
+pub mod given;
 pub mod groups;
 pub mod modules;
-pub mod rows;
+pub mod reader;
+pub mod tables;

@@ -1,152 +1,65 @@
-// The tables of a build that was read, handed over as long as is said.
-use buildcalls::{Counts, Form, Lent};
-use buildlines::rows;
-use options::Options;
+// The tables of a build that was read, each as long as is said.
+use buildform::Build;
+use buildform::lengths::Lengths;
+use buildlines::tables;
+use buildlines::tables::prefix;
+use options::tables::Groups;
+use plainsplit::{ModuleTables, ids_of};
+use records::Records;
 
-// How many entries of each table are handed over, of bits in words.
-#[derive(Clone, Copy)]
-struct Lengths {
-    flags: usize,
-    sizes: usize,
-    orders: usize,
-    shares: usize,
-    tags: usize,
-    bits: usize,
-    offsets: usize,
-    first: usize,
-    dependency: usize,
-    next: usize,
-    given: usize,
-    min_size: usize,
-    max_size: usize,
-    min_module_size: usize,
-    max_module_size: usize,
-    min_share_count: usize,
-    group_tags: usize,
-    priority: usize,
-    threshold: usize,
-    answers: usize,
-}
-
-fn counts_of(counts: &[usize; 6]) -> Counts {
-    Counts {
-        n: counts[0],
-        g: counts[1],
-        e: counts[2],
-        k: counts[3],
-        d: counts[4],
-        on_entry: counts[5],
+fn modules<'a>(read: &'a tables::Tables, lengths: &Lengths) -> ModuleTables<'a> {
+    ModuleTables {
+        flags: prefix(&read.modules.flags, lengths.flags.entries),
+        sizes: prefix(&read.modules.sizes, lengths.sizes.entries),
+        orders: prefix(&read.modules.orders, lengths.orders.entries),
+        shares: prefix(&read.modules.shares, lengths.shares.entries),
+        tags: prefix(&read.modules.tags, lengths.tags.entries),
+        bits: prefix(&read.modules.bits, lengths.bits.entries),
+        ids: ids_of(
+            prefix(&read.ids.bytes, read.ids.length),
+            prefix(&read.modules.offsets, lengths.offsets.entries),
+        ),
     }
 }
 
-fn lengths_of(lengths: &[usize; 20]) -> Lengths {
-    Lengths {
-        flags: lengths[0],
-        sizes: lengths[1],
-        orders: lengths[2],
-        shares: lengths[3],
-        tags: lengths[4],
-        bits: lengths[5],
-        offsets: lengths[6],
-        first: lengths[7],
-        dependency: lengths[8],
-        next: lengths[9],
-        given: lengths[10],
-        min_size: lengths[11],
-        max_size: lengths[12],
-        min_module_size: lengths[13],
-        max_module_size: lengths[14],
-        min_share_count: lengths[15],
-        group_tags: lengths[16],
-        priority: lengths[17],
-        threshold: lengths[18],
-        answers: lengths[19],
+fn records<'a>(read: &'a tables::Tables, lengths: &Lengths) -> Records<'a> {
+    Records {
+        first: prefix(&read.modules.first, lengths.first.entries),
+        dependency: prefix(&read.records.dependency, lengths.dependency.entries),
+        next: prefix(&read.records.next, lengths.next.entries),
     }
 }
 
-fn lent_of(areas: &[usize; 9]) -> Lent {
-    Lent {
-        chunk_of: areas[0],
-        next_of: areas[1],
-        first_of: areas[2],
-        group_of: areas[3],
-        name_of: areas[4],
-        size_of: areas[5],
-        bits_of: areas[6],
-        mark_of: areas[7],
-        scratch: areas[8],
+fn groups<'a>(read: &'a tables::Tables, lengths: &Lengths) -> Groups<'a> {
+    Groups {
+        given: prefix(&read.groups.given, lengths.given.entries),
+        min_size: prefix(&read.groups.min_size, lengths.min_size.entries),
+        max_size: prefix(&read.groups.max_size, lengths.max_size.entries),
+        min_module_size: prefix(
+            &read.groups.min_module_size,
+            lengths.min_module_size.entries,
+        ),
+        max_module_size: prefix(
+            &read.groups.max_module_size,
+            lengths.max_module_size.entries,
+        ),
+        min_share_count: prefix(
+            &read.groups.min_share_count,
+            lengths.min_share_count.entries,
+        ),
+        tags: prefix(&read.groups.tags, lengths.group_tags.entries),
+        priority: prefix(&read.groups.priority, lengths.priority.entries),
+        threshold: prefix(&read.groups.threshold, lengths.threshold.entries),
     }
 }
 
-// The rows of tables as arrays of their lengths; from here on they are slices, so that each table is cut off with no more to prove.
-pub fn answer(
-    form: Form,
-    tag: &[u8],
-    counts: &[usize; 6],
-    lengths: &[usize; 20],
-    areas: &[usize; 9],
-    options: Options,
-    id_bytes: usize,
-    ids: &[u8; 16384],
-    bytes: &[u8; 256],
-    shorts: &[u32; 3328],
-    longs: &[u64; 896],
-    doubles: &[f64; 640],
-) {
-    hand_over(
-        form,
-        tag,
-        counts_of(counts),
-        lengths_of(lengths),
-        options,
-        rows::bytes(ids, 0, id_bytes),
-        bytes,
-        shorts,
-        longs,
-        doubles,
-        lent_of(areas),
-    );
-}
-
-fn hand_over(
-    form: Form,
-    tag: &[u8],
-    counts: Counts,
-    long: Lengths,
-    options: Options,
-    ids: &[u8],
-    bytes: &[u8],
-    shorts: &[u32],
-    longs: &[u64],
-    doubles: &[f64],
-    lent: Lent,
-) {
-    buildcalls::answer(
-        form,
-        tag,
-        counts,
-        rows::bytes(bytes, rows::FLAGS, long.flags),
-        rows::longs(longs, rows::SIZES, long.sizes),
-        rows::shorts(shorts, rows::ORDERS, long.orders),
-        rows::shorts(shorts, rows::SHARES, long.shares),
-        rows::longs(longs, rows::TAGS, long.tags),
-        rows::longs(longs, rows::BITS, long.bits),
-        ids,
-        rows::shorts(shorts, rows::OFFSETS, long.offsets),
-        rows::shorts(shorts, rows::FIRST, long.first),
-        rows::shorts(shorts, rows::DEPENDENCY, long.dependency),
-        rows::shorts(shorts, rows::NEXT, long.next),
-        options,
-        rows::bytes(bytes, rows::GIVEN, long.given),
-        rows::doubles(doubles, rows::MIN_SIZE, long.min_size),
-        rows::doubles(doubles, rows::MAX_SIZE, long.max_size),
-        rows::doubles(doubles, rows::MIN_MODULE_SIZE, long.min_module_size),
-        rows::doubles(doubles, rows::MAX_MODULE_SIZE, long.max_module_size),
-        rows::shorts(shorts, rows::MIN_SHARE_COUNT, long.min_share_count),
-        rows::longs(longs, rows::GROUP_TAGS, long.group_tags),
-        rows::shorts(shorts, rows::PRIORITY, long.priority),
-        rows::doubles(doubles, rows::THRESHOLD, long.threshold),
-        rows::shorts(shorts, rows::ANSWERS, long.answers),
-        lent,
-    );
+pub fn handed_over(build: &Build) -> plainsplit::Build<'_> {
+    plainsplit::Build {
+        counts: build.counts,
+        options: build.options.to_options(),
+        modules: modules(&build.tables, &build.lengths),
+        records: records(&build.tables, &build.lengths),
+        groups: groups(&build.tables, &build.lengths),
+        answers: prefix(&build.tables.answers.numbers, build.lengths.answers.entries),
+    }
 }

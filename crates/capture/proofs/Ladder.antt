@@ -7,14 +7,17 @@ use native.Mathlib.Omega.{arith}
 use lib.Dec.{leb, ltb}
 use lib.ListN.{length}
 use Rattle.refusal.specs.Outcome.{refused, accepted, Test, outcome, first_number, ascending, Applies}
+use Rattle.std.specs.Prelude.Result.{Ok, Err}
+use Rattle.refusal.specs.Answers.{refusal_number}
+use Rattle.refusal.specs.declared.Refusal.{Refusal}
+use Rattle.refusal.specs.declared.Refusal.TheVariants as refusal
 use Rattle.refusal.proofs.Calls.{refuses_call, accepts_call}
-use Rattle.refusal.proofs.Ladder.{none_applies, applies, passes, row, left, goes_on, refuses}
+use Rattle.refusal.proofs.Ladder.{none_applies, applies, passes, row, left, goes_on, part_refuses}
 use Rattle.refusal.proofs.Lowest.{lowest}
 use Rattle.flags.specs.Flags.{bad_flags}
 use Rattle.records.specs.Bad.{bad_records}
 use Rattle.capture.specs.Capture.{Given}
 use Rattle.capture.specs.Call.{Areas, bad_counts, bad_lengths, input_tests, area_tests, capture_tests, capture_outcome, Written, CaptureCall}
-use Rattle.capture.specs.declared.CaptureAnswer.TheVariants.{Refused, Done}
 
 -- the order of tests ascends, so the first number is the lowest
 pub tests_ascend : (g : Given) (a : Areas) → ascending (capture_tests g a) ≡ true
@@ -73,19 +76,19 @@ module _ (g : Given) (a : Areas) where
   after_input p =
       goes_on tt tt tt inputs_of (area_tests g.n a) (no_input_number g.n g.d g.from g.flags g.first g.dependency g.next p)
 
-  pub refuses_input : (k : ℕ) → k ≡ first_number inputs_of → (k ≡ 0 → ⊥) → CaptureCall g (Refused k) a a
+  pub refuses_input : (e : Refusal) → refusal_number e ≡ first_number inputs_of → CaptureCall g (Err e) a a
   unfolding capture_outcome capture_tests
-  refuses_input k e h = refuses_call a (sym (refuses tt k inputs_of (area_tests g.n a) (omega arith) e))
+  refuses_input e told = refuses_call a (sym (part_refuses tt e inputs_of (area_tests g.n a) told))
 
-  pub refuses_12 : Passed → ltb (length a.marks) g.n ≡ true → CaptureCall g (Refused 12) a a
+  pub refuses_12 : Passed → ltb (length a.marks) g.n ≡ true → CaptureCall g (Err refusal.Area) a a
   unfolding area_tests
   refuses_12 p e = refuses_call a (after_input p ∙ row (applies e))
 
-  pub refuses_13 : Passed → ltb (length a.marks) g.n ≡ false → ltb (length a.scratch) g.n ≡ true → CaptureCall g (Refused 13) a a
+  pub refuses_13 : Passed → ltb (length a.marks) g.n ≡ false → ltb (length a.scratch) g.n ≡ true → CaptureCall g (Err refusal.Scratch) a a
   unfolding area_tests
   refuses_13 p e f = refuses_call a (after_input p ∙ row (passes e (applies f)))
 
   pub answers : Passed → ltb (length a.marks) g.n ≡ false → ltb (length a.scratch) g.n ≡ false → (b : Areas) → Written g a b
-      → CaptureCall g Done a b
+      → CaptureCall g (Ok tt) a b
   unfolding area_tests
   answers p e f b w = accepts_call (after_input p ∙ row (passes e (passes f none_applies))) (λ _. w)

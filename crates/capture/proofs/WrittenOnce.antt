@@ -8,8 +8,10 @@ use lib.ListN.{length, get_or, drop}
 use lib.Seq.{ext_get_or, get_or-drop}
 use Rattle.refusal.specs.Outcome.{Outcome, refused, accepted}
 use Rattle.capture.specs.Capture.{Given}
-use Rattle.capture.specs.Call.{Areas, Written, CaptureCall, capture_outcome, outcome_of}
-use Rattle.capture.specs.declared.CaptureAnswer.{CaptureAnswer}
+use Rattle.std.specs.Prelude.{Result}
+use Rattle.refusal.specs.Answers.{outcome_of}
+use Rattle.refusal.specs.declared.Refusal.{Refusal}
+use Rattle.capture.specs.Call.{Areas, Written, CaptureCall, capture_outcome}
 use Rattle.walk.proofs.Reached.{same_marks}
 
 -- lists of one length that agree below n and from n on are equal
@@ -36,7 +38,7 @@ written_once g before a b x y = λ i. record { marks = marks i; scratch = scratc
     scratch : a.scratch ≡ b.scratch
     scratch = x.cleared ∙ sym y.cleared
 
-module _ (g : Given) (before : Areas) (first second : CaptureAnswer) (a b : Areas) (x : CaptureCall g first before a) (y : CaptureCall g second before b) where
+module _ (g : Given) (before : Areas) (first second : Result Unit Refusal) (a b : Areas) (x : CaptureCall g first before a) (y : CaptureCall g second before b) where
   -- the answer of a call is one
   pub answer_once : outcome_of first ≡ outcome_of second
   answer_once = x.number ∙ sym y.number

@@ -1,14 +1,14 @@
 -- The call Capture, refusals included.
-use Rattle.std.specs.Prelude.{ℕ, ◌+◌, Bool, ◌||◌, List, [], ◌∷◌, ◌++◌, ◌≡◌, ltb, leb, length, drop, replicate}
-use Rattle.refusal.specs.Outcome.{Outcome, refused, accepted, Test, test, outcome}
+use Rattle.std.specs.Prelude.{ℕ, ◌+◌, Bool, ◌||◌, List, [], ◌∷◌, ◌++◌, ◌≡◌, ltb, leb, length, drop, replicate, Result}
+use Rattle.refusal.specs.Outcome.{Outcome, Test, test, outcome}
+use Rattle.refusal.specs.Answers.{outcome_of}
+use Rattle.refusal.specs.declared.Refusal.{Refusal}
 use Rattle.refusal.specs.Call.{Call, whole}
 use Rattle.refusal.specs.Counts.{module_limit, record_limit, bad_length}
 use Rattle.flags.specs.Flags.{bad_flags}
 use Rattle.records.specs.Bad.{bad_records}
 use Rattle.walk.specs.Reached.{Marks}
 use Rattle.capture.specs.Capture.{Given, Captured}
-use Rattle.capture.specs.declared.CaptureAnswer.{CaptureAnswer}
-use Rattle.capture.specs.declared.CaptureAnswer.TheVariants.{Refused, Done}
 
 -- the lent areas: one byte per module, and scratch words
 pub record Areas : Type 0 where
@@ -48,11 +48,6 @@ unfoldable pub capture_outcome : Given → Areas → Outcome Unit
 unfolding capture_tests outcome
 capture_outcome g a = outcome (capture_tests g a) tt
 
--- the number of each case of the answer
-abbrev pub outcome_of : CaptureAnswer → Outcome Unit
-outcome_of (Refused n) = refused n
-outcome_of Done = accepted tt
-
 -- what an accepted capture leaves: the marks of the captured modules, what lies past N as it was, and all of scratch as zeros
 pub record Written (g : Given) (before after : Areas) : Type 0 where
   pub marked : Marks (Captured g) g.n after.marks
@@ -61,5 +56,5 @@ pub record Written (g : Given) (before after : Areas) : Type 0 where
   pub cleared : after.scratch ≡ replicate (length before.scratch) 0
 
 -- the call: its answer, and the content of the lent areas after it
-abbrev pub CaptureCall : Given → CaptureAnswer → Areas → Areas → Type 0
+abbrev pub CaptureCall : Given → Result Unit Refusal → Areas → Areas → Type 0
 CaptureCall g answer before after = Call whole (capture_outcome g before) (outcome_of answer) before after (λ _. Written g before after)

@@ -2,6 +2,7 @@
 #![tactic(auto)]
 
 ghost use Rattle.std.specs.Prelude.{◌≡◌, ◌-◌, ◌≤◌, length};
+ghost use Rattle.refusal.specs.Answers.{number_or_zero};
 ghost use Rattle.refusal.specs.Counts.{record_limit};
 ghost use Rattle.refusal.specs.Outcome.{first_number};
 ghost use Rattle.walk.specs.Reached.{Marks};
@@ -10,46 +11,25 @@ ghost use Rattle.capture.specs.Start.{StartReady};
 ghost use Rattle.capture.specs.Call.{bad_counts, bad_lengths, input_tests, CaptureCall};
 
 use index::ModuleIdx;
-use lists::fill::{clear_bytes, clear_words};
-
-#[derive(Clone, Copy)]
-pub enum CaptureAnswer {
-    Refused(u32),
-    Done,
-}
+use records::Records;
+use refusal::Refusal;
 
 // Refusal 1: a count above its limit.
 fn bad_counts(n: usize, d: usize) -> bool
     ensures { result ≡ bad_counts n d }
 {
-    if refusal::MODULE_LIMIT < n {
-        return true;
-    }
-    refusal::RECORD_LIMIT < d
+    refusal::MODULE_LIMIT < n || refusal::RECORD_LIMIT < d
 }
 
 // Refusal 2: a table's length is not the one that its counts imply.
-fn bad_lengths(
-    flags: &[u8],
-    first: &[u32],
-    dependency: &[u32],
-    next: &[u32],
-    n: usize,
-    d: usize,
-) -> bool
+fn bad_lengths(flags: &[u8], records: &Records, n: usize, d: usize) -> bool
     requires { d ≤ record_limit }
-    ensures { result ≡ bad_lengths flags.now first.now dependency.now next.now n d }
+    ensures { result ≡ bad_lengths flags.now records.now.first.now records.now.dependency.now records.now.next.now n d }
 {
-    if flags.len() != n {
-        return true;
-    }
-    if first.len() != n {
-        return true;
-    }
-    if dependency.len() != d + 1 {
-        return true;
-    }
-    next.len() != d + 1
+    flags.len() != n
+        || records.first.len() != n
+        || records.dependency.len() != d + 1
+        || records.next.len() != d + 1
 }
 
 // Marks what a module captures: nothing if it isn't eligible, it alone with recursion off.
@@ -57,26 +37,24 @@ fn capture_from(
     from: ModuleIdx,
     recursive: bool,
     flags: &[u8],
-    first: &[u32],
-    dependency: &[u32],
-    next: &[u32],
+    records: &Records,
     marks: &mut [u8],
     queue: &mut [u32],
 )
-    requires { StartReady flags.now first.now dependency.now next.now (length flags.now) (length next.now - 1)
+    requires { StartReady flags.now records.now.first.now records.now.dependency.now records.now.next.now (length flags.now) (length records.now.next.now - 1)
         from.0 marks.old queue.old }
     ensures { Marks (Captured (record {
       n = length flags.now;
-      d = length next.now - 1;
+      d = length records.now.next.now - 1;
       recursive = recursive;
       from = from.0;
       flags = flags.now;
-      first = first.now;
-      dependency = dependency.now;
-      next = next.now;
+      first = records.now.first.now;
+      dependency = records.now.dependency.now;
+      next = records.now.next.now;
     })) (length flags.now) marks.new }
 {
-    clear_bytes(marks);
+    marks.fill(0);
     if !flags::is_eligible_at(flags, from) {
         return;
     }
@@ -86,47 +64,36 @@ fn capture_from(
     }
     queue[0] = from.0;
     let mut followed = [0u8; 65536];
-    walk::walk::walk(
-        flags,
-        first,
-        dependency,
-        next,
-        marks,
-        queue,
-        &mut followed,
-        1,
-    );
+    walk::walk::walk(flags, records, marks, queue, &mut followed, 1);
 }
 
-// The number of the first condition on the input that applies, and 0 if none does.
-fn input_number(
+// Refuses by the first condition on the input that applies.
+fn test_input(
     n: usize,
     d: usize,
     from: ModuleIdx,
     flags: &[u8],
-    first: &[u32],
-    dependency: &[u32],
-    next: &[u32],
-) -> u32
-    ensures { result ≡ first_number (input_tests n d from.0
-        flags.now first.now dependency.now next.now) }
+    records: &Records,
+) -> Result<(), Refusal>
+    ensures { number_or_zero result ≡ first_number (input_tests n d from.0
+        flags.now records.now.first.now records.now.dependency.now records.now.next.now) }
 {
     if bad_counts(n, d) {
-        return refusal::COUNT;
+        return Err(Refusal::Count);
     }
-    if bad_lengths(flags, first, dependency, next, n, d) {
-        return refusal::LENGTH;
+    if bad_lengths(flags, records, n, d) {
+        return Err(Refusal::Length);
     }
-    if records::bad_records(first, dependency, next, n, d) {
-        return refusal::RECORD;
+    if records::bad_records(records, n, d) {
+        return Err(Refusal::Record);
     }
     if flags::bad_flags(flags, n) {
-        return refusal::BIT;
+        return Err(Refusal::Bit);
     }
     if n <= from.0 as usize {
-        return refusal::NUMBER;
+        return Err(Refusal::Number);
     }
-    0
+    Ok(())
 }
 
 // The public call: marks each module that the start captures.
@@ -136,21 +103,19 @@ pub fn add_module_and_dependencies_to_group_recursively(
     recursive: bool,
     from: ModuleIdx,
     flags: &[u8],
-    first: &[u32],
-    dependency: &[u32],
-    next: &[u32],
+    records: &Records,
     marks: &mut [u8],
     scratch: &mut [u32],
-) -> CaptureAnswer
+) -> Result<(), Refusal>
     ensures { CaptureCall (record {
       n = n;
       d = d;
       recursive = recursive;
       from = from.0;
       flags = flags.now;
-      first = first.now;
-      dependency = dependency.now;
-      next = next.now;
+      first = records.now.first.now;
+      dependency = records.now.dependency.now;
+      next = records.now.next.now;
     }) result (record {
       marks = marks.old;
       scratch = scratch.old;
@@ -159,26 +124,14 @@ pub fn add_module_and_dependencies_to_group_recursively(
       scratch = scratch.new;
     }) }
 {
-    let number = input_number(n, d, from, flags, first, dependency, next);
-    if number != 0 {
-        return CaptureAnswer::Refused(number);
-    }
+    test_input(n, d, from, flags, records)?;
     if marks.len() < n {
-        return CaptureAnswer::Refused(refusal::AREA);
+        return Err(Refusal::Area);
     }
     if scratch.len() < n {
-        return CaptureAnswer::Refused(refusal::SCRATCH);
+        return Err(Refusal::Scratch);
     }
-    capture_from(
-        from,
-        recursive,
-        flags,
-        first,
-        dependency,
-        next,
-        &mut marks[..n],
-        scratch,
-    );
-    clear_words(scratch);
-    CaptureAnswer::Done
+    capture_from(from, recursive, flags, records, &mut marks[..n], scratch);
+    scratch.fill(0);
+    Ok(())
 }

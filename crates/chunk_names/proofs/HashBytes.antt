@@ -1,31 +1,16 @@
--- Refusal 16: the bytes of a hash from byte i on, as the loop over them meets them, and what a hash that passes is.
-use Prim.Native.Nat.{ℕ, zero, suc, ◌+◌, ◌≤◌, ◌<◌}
-use mathlib.Core.Bool.{true, false}
+-- Refusal 16: what a hash that passes is.
+use Prim.Native.Nat.{ℕ, zero, suc, ◌<◌}
+use mathlib.Core.Bool.{false}
 use mathlib.Core.List.{List, [], ◌∷◌}
 use mathlib.Core.Path.{◌≡◌}
 use native.Mathlib.Nat.{le_of_suc-le-suc}
-use native.Mathlib.Numerals.{add-one}
 use native.Mathlib.Omega.{arith}
-use borrow.Author.Tests.{le-leb, lt-leb, leb-false, eq-eqb, ne_eqb}
+use borrow.Author.Tests.{leb-false}
 use lib.Dec.{leb}
-use lib.ListN.{length, get_or, drop, drop_of_length-le}
-use lib.Seq.{drop-cons}
+use lib.ListN.{length, get_or}
 use Rattle.lists.proofs.Below.{neither}
 use Rattle.refusal.proofs.Lengths.{first_length}
 use Rattle.chunk_names.specs.Conditions.{any_high, bad_hash}
-
-module _ (l : List ℕ) (i : ℕ) where
-  pub byte_high : i < length l → 128 ≤ get_or l i 0 → any_high (drop i l) ≡ true
-  unfolding any_high
-  byte_high h p = rw (drop-cons l i 0 h, le-leb 128 (get_or l i 0) p)
-
-  pub byte_low : i < length l → get_or l i 0 < 128 → any_high (drop i l) ≡ any_high (drop (i + 1) l)
-  unfolding any_high
-  byte_low h p = rw (add-one, drop-cons l i 0 h, lt-leb 128 (get_or l i 0) p)
-
-  pub no_byte : length l ≤ i → any_high (drop i l) ≡ false
-  unfolding any_high
-  no_byte h = rw (drop_of_length-le l h)
 
 -- every byte of one that passes is below 128
 pub all_low : (l : List ℕ) → any_high l ≡ false → (i : ℕ) → i < length l → get_or l i 0 < 128
@@ -33,12 +18,6 @@ unfolding any_high
 all_low [] e i h = omega arith
 all_low (b ∷ l) e zero h = leb-false 128 b (neither (leb 128 b) (any_high l) e).0
 all_low (b ∷ l) e (suc i) h = all_low l (neither (leb 128 b) (any_high l) e).1 i (le_of_suc-le-suc h)
-
-pub not_eight : (hash : List ℕ) → (length hash ≡ 8 → ⊥) → bad_hash hash ≡ true
-not_eight hash h = rw (ne_eqb (length hash) 8 h)
-
-pub eight : (hash : List ℕ) → length hash ≡ 8 → bad_hash hash ≡ any_high hash
-eight hash h = rw (eq-eqb (length hash) 8 h)
 
 -- what a hash that passes is
 pub good_hash : (hash : List ℕ) → bad_hash hash ≡ false → (length hash ≡ 8) × (any_high hash ≡ false)

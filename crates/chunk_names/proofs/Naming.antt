@@ -3,18 +3,19 @@ use Prim.Native.Nat.{ℕ, ◌≤◌}
 use mathlib.Core.Bool.{true}
 use mathlib.Core.List.{List, []}
 use mathlib.Core.Path.{◌≡◌, refl, sym, ap, ◌∙◌}
-use native.Mathlib.Omega.{arith}
 use lib.ListN.{length}
 use Rattle.refusal.specs.Outcome.{refused, accepted, Test, outcome, first_number, ascending, Applies}
+use Rattle.std.specs.Prelude.Result.{Ok, Err}
+use Rattle.refusal.specs.Answers.{refusal_number}
+use Rattle.refusal.specs.declared.Refusal.{Refusal}
 use Rattle.refusal.proofs.Calls.{refuses_call, accepts_call}
-use Rattle.refusal.proofs.Ladder.{refuses, past}
+use Rattle.refusal.proofs.Ladder.{part_refuses, past}
 use Rattle.refusal.proofs.Lowest.{lowest}
 use Rattle.chunk_names.specs.Given.{Given, entry_names, group_name, chunk_name}
 use Rattle.chunk_names.specs.Name.{name_of}
 use Rattle.chunk_names.specs.Append.{Appended}
 use Rattle.chunk_names.specs.Conditions.{table_tests, chunk_tests}
 use Rattle.chunk_names.specs.Call.{name_tests, name_outcome, NameCall}
-use Rattle.chunk_names.specs.declared.NameAnswer.TheVariants.{Refused, Named}
 use Rattle.chunk_names.proofs.Appending.{whole_length, whole_bytes}
 use Rattle.chunk_names.proofs.ChunkTests.{passed}
 use Rattle.chunk_names.proofs.HashBytes.{good_hash}
@@ -36,32 +37,32 @@ module _ (g : Given) (room : ℕ) where
   abbrev of_chunk : List Test
   of_chunk = chunk_tests g.names g.number g.hash room
 
-  refused_tables : (k : ℕ) → k ≡ first_number of_tables → (k ≡ 0 → ⊥) → name_outcome g room ≡ refused k
+  refused_tables : (e : Refusal) → refusal_number e ≡ first_number of_tables → name_outcome g room ≡ refused (refusal_number e)
   unfolding name_outcome name_tests
-  refused_tables k e h = sym (refuses (length (chunk_name g)) k of_tables of_chunk (omega arith) e)
+  refused_tables e told = sym (part_refuses (length (chunk_name g)) e of_tables of_chunk told)
 
   module _ (tables : 0 ≡ first_number of_tables) where
     after_tables : name_outcome g room ≡ outcome of_chunk (length (chunk_name g))
     unfolding name_outcome name_tests table_tests
     after_tables = past (length (chunk_name g)) of_tables of_chunk refl tables
 
-    refused_chunk : (k : ℕ) → k ≡ first_number of_chunk → (k ≡ 0 → ⊥) → name_outcome g room ≡ refused k
+    refused_chunk : (e : Refusal) → refusal_number e ≡ first_number of_chunk → name_outcome g room ≡ refused (refusal_number e)
     unfolding chunk_tests
-    refused_chunk k e h = after_tables ∙ sym (refuses (length (chunk_name g)) k of_chunk [] (omega arith) e)
+    refused_chunk e told = after_tables ∙ sym (part_refuses (length (chunk_name g)) e of_chunk [] told)
 
     accepted_chunk : 0 ≡ first_number of_chunk → name_outcome g room ≡ accepted (length (chunk_name g))
     unfolding chunk_tests outcome
     accepted_chunk e = after_tables ∙ past (length (chunk_name g)) of_chunk [] refl e
 
 module _ (g : Given) (area : List ℕ) where
-  pub refuses_tables : (k : ℕ) → k ≡ first_number (of_tables g (length area)) → (k ≡ 0 → ⊥) → NameCall g (Refused k) area area
-  refuses_tables k e h = refuses_call area (refused_tables g (length area) k e h)
+  pub refuses_tables : (e : Refusal) → refusal_number e ≡ first_number (of_tables g (length area)) → NameCall g (Err e) area area
+  refuses_tables e told = refuses_call area (refused_tables g (length area) e told)
 
   module _ (tables : 0 ≡ first_number (of_tables g (length area))) where
-    pub refuses_chunk : (k : ℕ) → k ≡ first_number (of_chunk g (length area)) → (k ≡ 0 → ⊥) → NameCall g (Refused k) area area
-    refuses_chunk k e h = refuses_call area (refused_chunk g (length area) tables k e h)
+    pub refuses_chunk : (e : Refusal) → refusal_number e ≡ first_number (of_chunk g (length area)) → NameCall g (Err e) area area
+    refuses_chunk e told = refuses_call area (refused_chunk g (length area) tables e told)
 
-    pub names : 0 ≡ first_number (of_chunk g (length area)) → (end : ℕ) (after : List ℕ) → Appended area 0 (chunk_name g) end after → NameCall g (Named end) area after
+    pub names : 0 ≡ first_number (of_chunk g (length area)) → (end : ℕ) (after : List ℕ) → Appended area 0 (chunk_name g) end after → NameCall g (Ok end) area after
     names e end after x =
         let p = passed g.names g.number g.hash (length area) e in
         let fits = name_fits g (length area) (good_hash g.hash p.good_hash).0 p.roomy.enough p.roomy.holds_group in

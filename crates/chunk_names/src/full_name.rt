@@ -62,10 +62,8 @@ fn append_entries(
         (entry_parts bits (names_of e entry_names.now entry_offsets.now)) result area.new }
 {
     let mut at = from;
-    let mut entry = 0;
-    while entry < e {
+    for entry in 0..e {
         at = append_entry(area, at, bits, entry, e, entry_names, entry_offsets);
-        entry = entry + 1;
     }
     at
 }

@@ -9,12 +9,7 @@ pub mod name;
 ghost use Rattle.chunk_names.specs.Call.{NameCall};
 
 use bitset::entries::BitSet;
-
-#[derive(Clone, Copy)]
-pub enum NameAnswer {
-    Refused(u32),
-    Named(usize),
-}
+use refusal::Refusal;
 
 // The public call: writes the name of one chunk to the front of the lent area and answers its length.
 pub fn derive_entries_aware_chunk_name(
@@ -29,7 +24,7 @@ pub fn derive_entries_aware_chunk_name(
     bits: BitSet,
     hash: &[u8],
     area: &mut [u8],
-) -> NameAnswer
+) -> Result<usize, Refusal>
     ensures { NameCall (record {
       names = record {
         k = k;
@@ -45,18 +40,8 @@ pub fn derive_entries_aware_chunk_name(
       hash = hash.now;
     }) result area.old area.new }
 {
-    let of_tables = conditions::table_number(
-        k,
-        e,
-        group_names,
-        group_offsets,
-        entry_names,
-        entry_offsets,
-    );
-    if of_tables != 0 {
-        return NameAnswer::Refused(of_tables);
-    }
-    let of_chunk = conditions::chunk_number(
+    conditions::table_number(k, e, group_names, group_offsets, entry_names, entry_offsets)?;
+    conditions::chunk_number(
         k,
         e,
         group_names,
@@ -66,12 +51,9 @@ pub fn derive_entries_aware_chunk_name(
         number,
         hash,
         area.len(),
-    );
-    if of_chunk != 0 {
-        return NameAnswer::Refused(of_chunk);
-    }
+    )?;
     let group = name_tables::name_at(group_names, group_offsets, number as usize);
-    NameAnswer::Named(name::write_name(
+    Ok(name::write_name(
         entries_aware,
         group,
         bits,

@@ -17,7 +17,9 @@ use Rattle.sums.specs.Names.{AnswersWithin}
 use Rattle.conditions.proofs.CountsLeft.{counts_passed}
 use Rattle.conditions.proofs.TablesLeft.{answers_within}
 use Rattle.places.specs.Ordered.{listed_of}
-use Rattle.testing.specs.declared.Tested.TheVariants.{Refused, Passed}
+use Rattle.std.specs.Prelude.Result.{Ok, Err}
+use Rattle.refusal.specs.Answers.{refusal_number}
+use Rattle.refusal.specs.declared.Refusal.{Refusal}
 use Rattle.testing.specs.Tested.{InputTested}
 use Rattle.testing.proofs.TestsJoined.{refused_input, refused_state, accepted_both, input_passed}
 use Rattle.testing.proofs.RanksLeft.{ranks_of}
@@ -43,18 +45,18 @@ refuses b a number e = refuses_call a e
 
 module _ (b : Given) (a : Areas) {by_order rank : List ℕ} where
   -- a condition of the input applies
-  pub input_refused : (number : ℕ) → InputTested b (Refused number) zeros by_order zeros rank → ChunksCall scratch_need b (refused number) a a
-  input_refused number t = refuses b a number (refused_input a (length (chunk_list b)) t)
+  pub input_refused : (e : Refusal) → InputTested b (Err e) zeros by_order zeros rank → ChunksCall scratch_need b (refused (refusal_number e)) a a
+  input_refused e t = refuses b a (refusal_number e) (refused_input a (length (chunk_list b)) t)
 
-  module _ (count : ℕ) (t : InputTested b (Passed count) zeros by_order zeros rank) where
+  module _ (count : ℕ) (t : InputTested b (Ok count) zeros by_order zeros rank) where
     -- what the conditions of the state are tested on
     pub passed_answers : AnswersWithin b.variant.answers b.shared.n b.variant.g b.shared.k
     passed_answers = let p = (input_passed t).passed in answers_within b p.counts p.tables p.answers
 
     -- one of those applies
-    pub state_refused : (number : ℕ) → 0 < number → number ≡ first_number (state_tests b.on_entry b.shared.n (scratch_need b) a)
-        → ChunksCall scratch_need b (refused number) a a
-    state_refused number h e = refuses b a number (refused_state a (length (chunk_list b)) t h e)
+    pub state_refused : (e : Refusal) → refusal_number e ≡ first_number (state_tests b.on_entry b.shared.n (scratch_need b) a)
+        → ChunksCall scratch_need b (refused (refusal_number e)) a a
+    state_refused e told = refuses b a (refusal_number e) (refused_state a (length (chunk_list b)) t e told)
 
     -- ---- an accepted call
 

@@ -3,24 +3,23 @@
 
 ghost use Rattle.grouping.specs.Call.{ChunksCall};
 ghost use Rattle.grouping.specs.Conditions.{scratch_need};
-ghost use Rattle.chunks.specs.Answer.{outcome_of};
+ghost use Rattle.refusal.specs.Answers.{outcome_of};
+ghost use Rattle.options.specs.Tables.{tables_of};
+ghost use Rattle.emitting.specs.Emitted.{SameAreas};
 
 use conditions::AreaLengths;
+use emitting::ChunkAreas;
+use ids::parts::Ids;
 use options::Options;
+use options::tables::Groups;
+use records::Records;
+use refusal::Refusal;
 use tested_run::run_tested;
-use testing::Tested;
 use testing::input::test_input;
 use testing::state::test_state;
 use turns::settings::all_settings;
 
-// The number of a condition that applies, or how many new chunks there are.
-#[derive(Clone, Copy)]
-pub enum ChunksAnswer {
-    Refused(u32),
-    Made(usize),
-}
-
-// The call. A refusal touches no lent area.
+// The call: refuses, or answers how many new chunks there are. A refusal touches no lent area.
 pub fn split(
     n: usize,
     g: usize,
@@ -33,34 +32,18 @@ pub fn split(
     shares: &[u32],
     tags: &[u64],
     bits: &[u64],
-    bytes: &[u8],
-    offsets: &[u32],
-    first: &[u32],
-    dependency: &[u32],
-    next: &[u32],
+    ids: &Ids,
+    records: &Records,
     options: Options,
-    given: &[u8],
-    min_size: &[f64],
-    max_size: &[f64],
-    min_module_size: &[f64],
-    max_module_size: &[f64],
-    min_share_count: &[u32],
-    group_tags: &[u64],
-    priority: &[u32],
-    threshold: &[f64],
+    groups: &Groups,
     answers: &[u32],
     on_entry: usize,
-    chunk_of: &mut [u32],
+    areas: &mut ChunkAreas,
     next_of: &mut [u32],
     first_of: &mut [u32],
-    group_of: &mut [u32],
-    name_of: &mut [u32],
-    size_of: &mut [f64],
-    bits_of: &mut [u64],
-    mark_of: &mut [u8],
     scratch: &mut [u32],
-) -> ChunksAnswer
-    ensures { ChunksCall scratch_need (record {
+) -> Result<usize, Refusal>
+    ensures answered { ChunksCall scratch_need (record {
       shared = record {
         n = n;
         e = e;
@@ -71,57 +54,48 @@ pub fn split(
         shares = shares.now;
         tags = tags.now;
         bits = bits.now;
-        bytes = bytes.now;
-        offsets = offsets.now;
-        first = first.now;
-        dependency = dependency.now;
-        next = next.now;
+        bytes = ids.now.bytes.now;
+        offsets = ids.now.offsets.now;
+        first = records.now.first.now;
+        dependency = records.now.dependency.now;
+        next = records.now.next.now;
         options = options;
       };
       variant = record {
         flags = flags.now;
         g = g;
-        groups = record {
-          given = given.now;
-          min_size = min_size.now;
-          max_size = max_size.now;
-          min_module_size = min_module_size.now;
-          max_module_size = max_module_size.now;
-          min_share_count = min_share_count.now;
-          tags = group_tags.now;
-          priority = priority.now;
-          threshold = threshold.now;
-        };
+        groups = tables_of groups.now;
         answers = answers.now;
       };
       on_entry = on_entry;
     }) (outcome_of result) (record {
-      modules = record { chunk_of = chunk_of.old; next_of = next_of.old };
+      modules = record { chunk_of = areas.old.chunk_of.now; next_of = next_of.old };
       records = record {
         first_of = first_of.old;
-        group_of = group_of.old;
-        name_of = name_of.old;
-        size_of = size_of.old;
-        bits_of = bits_of.old;
-        mark_of = mark_of.old;
+        group_of = areas.old.group_of.now;
+        name_of = areas.old.name_of.now;
+        size_of = areas.old.size_of.now;
+        bits_of = areas.old.bits_of.now;
+        mark_of = areas.old.mark_of.now;
       };
       scratch = scratch.old;
     }) (record {
-      modules = record { chunk_of = chunk_of.new; next_of = next_of.new };
+      modules = record { chunk_of = areas.new.chunk_of.now; next_of = next_of.new };
       records = record {
         first_of = first_of.new;
-        group_of = group_of.new;
-        name_of = name_of.new;
-        size_of = size_of.new;
-        bits_of = bits_of.new;
-        mark_of = mark_of.new;
+        group_of = areas.new.group_of.now;
+        name_of = areas.new.name_of.now;
+        size_of = areas.new.size_of.now;
+        bits_of = areas.new.bits_of.now;
+        mark_of = areas.new.mark_of.now;
       };
       scratch = scratch.new;
     }) }
+    ensures same { SameAreas areas.old areas.new }
 {
     let mut by_order = [0u32; 4096];
     let mut rank = [0u32; 4096];
-    let tested = test_input(
+    let count = test_input(
         n,
         g,
         e,
@@ -133,81 +107,46 @@ pub fn split(
         shares,
         tags,
         bits,
-        bytes,
-        offsets,
-        first,
-        dependency,
-        next,
+        ids,
+        records,
         options,
-        given,
-        min_size,
-        max_size,
-        min_module_size,
-        max_module_size,
-        min_share_count,
-        group_tags,
-        priority,
-        threshold,
+        groups,
         answers,
         &mut by_order,
         &mut rank,
+    )?;
+    let lengths = AreaLengths {
+        chunk_of: areas.chunk_of.len(),
+        next_of: next_of.len(),
+        first_of: first_of.len(),
+        group_of: areas.group_of.len(),
+        name_of: areas.name_of.len(),
+        size_of: areas.size_of.len(),
+        bits_of: areas.bits_of.len(),
+        mark_of: areas.mark_of.len(),
+    };
+    test_state(answers, n, g, k, on_entry, lengths, scratch.len())?;
+    let made = run_tested(
+        n,
+        g,
+        flags,
+        sizes,
+        shares,
+        tags,
+        bits,
+        ids,
+        records,
+        options,
+        groups,
+        answers,
+        &by_order[..count],
+        &rank[..n],
+        on_entry,
+        0,
+        areas,
+        next_of,
+        first_of,
+        scratch,
     );
-    match tested {
-        Tested::Refused(number) => ChunksAnswer::Refused(number),
-        Tested::Passed(count) => {
-            let lengths = AreaLengths {
-                chunk_of: chunk_of.len(),
-                next_of: next_of.len(),
-                first_of: first_of.len(),
-                group_of: group_of.len(),
-                name_of: name_of.len(),
-                size_of: size_of.len(),
-                bits_of: bits_of.len(),
-                mark_of: mark_of.len(),
-            };
-            let number = test_state(answers, n, g, k, on_entry, lengths, scratch.len());
-            if number != 0 {
-                return ChunksAnswer::Refused(number);
-            }
-            let made = run_tested(
-                n,
-                g,
-                flags,
-                sizes,
-                shares,
-                tags,
-                bits,
-                bytes,
-                offsets,
-                first,
-                dependency,
-                next,
-                options,
-                given,
-                min_size,
-                max_size,
-                min_module_size,
-                max_module_size,
-                min_share_count,
-                group_tags,
-                priority,
-                threshold,
-                answers,
-                &by_order[..count],
-                &rank[..n],
-                on_entry,
-                0,
-                chunk_of,
-                next_of,
-                first_of,
-                group_of,
-                name_of,
-                size_of,
-                bits_of,
-                mark_of,
-                scratch,
-            );
-            ChunksAnswer::Made(made)
-        }
-    }
+    Ok(made)
 }

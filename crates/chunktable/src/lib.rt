@@ -3,6 +3,17 @@
 
 use textform::out;
 
+// The areas that a table of the chunks shows.
+#[derive(Clone, Copy)]
+pub struct ChunkTable<'a> {
+    pub chunk_of: &'a [u32],
+    pub next_of: &'a [u32],
+    pub first_of: &'a [u32],
+    pub group_of: &'a [u32],
+    pub name_of: &'a [u32],
+    pub size_of: &'a [f64],
+}
+
 pub fn refused(condition: u32) {
     out::text(b"refused ");
     out::number(condition as u64);
@@ -18,100 +29,56 @@ fn column(n: u32) {
     number(n);
 }
 
-// A module, and what the area says after it.
-fn module_and_next(module: u32, next_of: &[u32]) -> u32 {
-    column(module);
-    let at = module as usize;
-    if at >= next_of.len() {
-        return 0;
+impl ChunkTable<'_> {
+    // The heading, and the chunks that were made.
+    pub fn chunks(self, count: usize) {
+        out::text(b"chunk group name size modules\n");
+        for at in 0..count {
+            self.record(at);
+        }
     }
-    next_of[at]
-}
 
-// The modules of a chunk: each number is a module's plus 1, and 0 ends the chain.
-fn modules(first: u32, next_of: &[u32]) {
-    let mut rest = first;
-    let mut i = 0;
-    while i < next_of.len() {
-        if rest == 0 {
+    // The record of a chunk.
+    fn record(self, at: usize) {
+        if let Some(first) = self.first_of.get(at)
+            && let Some(group) = self.group_of.get(at)
+            && let Some(name) = self.name_of.get(at)
+            && let Some(size) = self.size_of.get(at)
+        {
+            self.chunk(*first, *group, *name, *size);
+        }
+    }
+
+    fn chunk(self, first: u32, group: u32, name: u32, size: f64) {
+        if first == 0 {
             return;
         }
-        rest = module_and_next(rest - 1, next_of);
-        i = i + 1;
+        self.chunk_number(first - 1);
+        column(group);
+        column(name);
+        out::size(size);
+        self.modules(first);
+        out::line_end();
     }
-}
 
-// The chunk number of a module, which is held plus 1. A module that is in no chunk has none.
-fn chunk_number(module: u32, chunk_of: &[u32]) {
-    let at = module as usize;
-    if at >= chunk_of.len() {
-        return;
+    // The chunk number of a module, which is held plus 1. A module that is in no chunk has none.
+    fn chunk_number(self, module: u32) {
+        if let Some(held) = self.chunk_of.get(module as usize) {
+            if *held != 0 {
+                number(*held - 1);
+            }
+        }
     }
-    let held = chunk_of[at];
-    if held == 0 {
-        return;
-    }
-    number(held - 1);
-}
 
-fn chunk(first: u32, group: u32, name: u32, size: f64, chunk_of: &[u32], next_of: &[u32]) {
-    if first == 0 {
-        return;
-    }
-    chunk_number(first - 1, chunk_of);
-    column(group);
-    column(name);
-    out::size(size);
-    modules(first, next_of);
-    out::line_end();
-}
-
-// The record of a chunk.
-fn record(
-    at: usize,
-    chunk_of: &[u32],
-    next_of: &[u32],
-    first_of: &[u32],
-    group_of: &[u32],
-    name_of: &[u32],
-    size_of: &[f64],
-) {
-    if at >= first_of.len() {
-        return;
-    }
-    if at >= group_of.len() {
-        return;
-    }
-    if at >= name_of.len() {
-        return;
-    }
-    if at >= size_of.len() {
-        return;
-    }
-    chunk(
-        first_of[at],
-        group_of[at],
-        name_of[at],
-        size_of[at],
-        chunk_of,
-        next_of,
-    );
-}
-
-// The heading, and the chunks that were made.
-pub fn chunks(
-    count: usize,
-    chunk_of: &[u32],
-    next_of: &[u32],
-    first_of: &[u32],
-    group_of: &[u32],
-    name_of: &[u32],
-    size_of: &[f64],
-) {
-    out::text(b"chunk group name size modules\n");
-    let mut at = 0;
-    while at < count {
-        record(at, chunk_of, next_of, first_of, group_of, name_of, size_of);
-        at = at + 1;
+    // The modules of a chunk: each number is a module's plus 1, and 0 ends the chain.
+    fn modules(self, first: u32) {
+        let mut rest = first;
+        for _ in 0..self.next_of.len() {
+            if rest == 0 {
+                return;
+            }
+            column(rest - 1);
+            rest = *self.next_of.get((rest - 1) as usize).unwrap_or(&0);
+        }
     }
 }

@@ -9,6 +9,7 @@ ghost use Rattle.closed.specs.Closed.{closes, live_by, some_left, closed_after};
 
 use lists::store::store_bytes;
 use options::Settings;
+use records::Records;
 use sets::built::build_set;
 
 // Whether sets of the group can be closed.
@@ -27,9 +28,7 @@ pub fn build_left(
     recursive: bool,
     flags: &[u8],
     closed: &[u8],
-    first: &[u32],
-    dependency: &[u32],
-    next: &[u32],
+    records: &Records,
     order: &[u32],
     place: &[u32],
     run: &[u32],
@@ -38,21 +37,20 @@ pub fn build_left(
     followed: &mut [u8],
     set: &mut [u32],
 ) -> usize
-    requires { SetReady (live_by closing flags.now closed.now) first.now dependency.now next.now order.now place.now run.now
+    requires { SetReady (live_by closing flags.now closed.now) records.now.first.now records.now.dependency.now records.now.next.now order.now place.now run.now
         marks.old queue.old followed.old set.old }
-    ensures set_built { SetBuilt recursive (live_by closing flags.now closed.now) first.now dependency.now
-        next.now order.now run.now result set.new }
+    ensures set_built { SetBuilt recursive (live_by closing flags.now closed.now) records.now.first.now records.now.dependency.now
+        records.now.next.now order.now run.now result set.new }
     ensures marks_after { (marks.new ≡ replicate (length (live_by closing flags.now closed.now)) 0)
         × (followed.new ≡ unfollowed) }
 {
     if closing {
         return build_set(
-            recursive, closed, first, dependency, next, order, place, run, marks, queue, followed,
-            set,
+            recursive, closed, records, order, place, run, marks, queue, followed, set,
         );
     }
     build_set(
-        recursive, flags, first, dependency, next, order, place, run, marks, queue, followed, set,
+        recursive, flags, records, order, place, run, marks, queue, followed, set,
     )
 }
 
@@ -61,13 +59,11 @@ fn some_left(set: &[u32], chunk_of: &[u32]) -> bool
     requires { HasEntry chunk_of.now set.now }
     ensures { result ≡ some_left chunk_of.now set.now }
 {
-    let mut i = 0;
-    while i < set.len() {
-        let m = set[i] as usize;
+    for module in set {
+        let m = *module as usize;
         if chunk_of[m] == 0 {
             return true;
         }
-        i = i + 1;
     }
     false
 }

@@ -5,11 +5,9 @@ use mathlib.Core.List.{[]}
 use mathlib.Core.Path.{◌≡◌, refl, sym, ◌∙◌}
 use borrow.Author.Tests.{ltb-false}
 use lib.Dec.{ltb}
+use Rattle.std.specs.Prelude.{None}
 use Rattle.lists.proofs.Below.{neither}
 use Rattle.refusal.specs.Counts.{module_limit, group_limit, entry_limit, name_limit, record_limit}
-use Rattle.limit.specs.declared.Limit.TheVariants as limit
-use Rattle.filter.specs.declared.MinShareCount.TheVariants as shares
-use Rattle.options.specs.declared.Recursion.TheVariants as recursion
 use Rattle.grouping.specs.Given.{Given}
 use Rattle.grouping.specs.Conditions.{count_above}
 use Rattle.conditions.specs.HandsIn.{HandsCounts, CountsWithin}
@@ -62,12 +60,12 @@ counts_only n g e k d =
             next = [];
             options =
                 record {
-                  min_size = limit.Absent;
-                  max_size = limit.Absent;
-                  min_module_size = limit.Absent;
-                  max_module_size = limit.Absent;
-                  min_share_count = shares.Absent;
-                  recursion = recursion.Absent;
+                  min_size = None;
+                  max_size = None;
+                  min_module_size = None;
+                  max_module_size = None;
+                  min_share_count = None;
+                  recursion = None;
                 };
           };
       variant =

@@ -5,6 +5,8 @@ ghost use Rattle.grouping.specs.Given.{Given};
 ghost use Rattle.grouping.specs.Conditions.{bad_id, bad_dependency};
 ghost use Rattle.conditions.specs.HandsIn.{HandsRecords};
 
+use records::Records;
+
 // Refusal 3, with the length of the byte slice that the offsets cut.
 pub fn bad_id(end: usize, offsets: &[u32]) -> bool
     ensures { (b : Given) → length b.shared.bytes ≡ end → b.shared.offsets ≡ offsets.now → result ≡ bad_id b }
@@ -13,9 +15,9 @@ pub fn bad_id(end: usize, offsets: &[u32]) -> bool
 }
 
 // Refusal 7.
-pub fn bad_dependency(first: &[u32], dependency: &[u32], next: &[u32], n: usize, d: usize) -> bool
-    requires { RecordTables first.now dependency.now next.now n d }
-    ensures { (b : Given) → HandsRecords b first.now dependency.now next.now n d → result ≡ bad_dependency b }
+pub fn bad_dependency(records: &Records, n: usize, d: usize) -> bool
+    requires { RecordTables records.now.first.now records.now.dependency.now records.now.next.now n d }
+    ensures { (b : Given) → HandsRecords b records.now.first.now records.now.dependency.now records.now.next.now n d → result ≡ bad_dependency b }
 {
-    records::bad_records(first, dependency, next, n, d)
+    records::bad_records(records, n, d)
 }

@@ -1,5 +1,4 @@
 -- The laws of the definitions of specs/.
-pub mod Comparing
 pub mod InOrder
 pub mod Totals
 pub mod Looking

@@ -1,7 +1,9 @@
 -- The call Cut, refusals included.
-use Rattle.std.specs.Prelude.{ℕ, ◌+◌, ◌||◌, List, [], ◌∷◌, ltb, Float, length}
+use Rattle.std.specs.Prelude.{ℕ, ◌+◌, ◌||◌, List, [], ◌∷◌, ltb, Float, length, Result}
 use Rattle.std.specs.Float.Ieee.{is_nan}
-use Rattle.refusal.specs.Outcome.{Outcome, refused, accepted, Test, test, outcome}
+use Rattle.refusal.specs.Outcome.{Outcome, mapped, Test, test, outcome}
+use Rattle.refusal.specs.Answers as answers
+use Rattle.refusal.specs.declared.Refusal.{Refusal}
 use Rattle.refusal.specs.Counts.{module_limit, bad_length}
 use Rattle.whole.specs.Total.{total_exceeds}
 use Rattle.ids.specs.Parts.{ids_of}
@@ -9,8 +11,6 @@ use Rattle.ids.specs.Offsets.{id_limit, bad_offsets}
 use Rattle.cut.specs.Cut.{Chosen, fewer_than_two, none_allowed, cut, cut_of}
 use Rattle.cut.specs.declared.Cut.{Cut}
 use Rattle.cut.specs.declared.Cut.TheVariants.{FewerThanTwo, NoneAllowed, At}
-use Rattle.cut.specs.declared.CutAnswer.{CutAnswer}
-use Rattle.cut.specs.declared.CutAnswer.TheVariants.{Refused, Answered}
 
 -- the conditions that Cut tests, in its order
 unfoldable pub cut_tests : ℕ → List ℕ → List ℕ → List ℕ → Float → Float → List Test
@@ -35,7 +35,6 @@ chosen_of FewerThanTwo = fewer_than_two
 chosen_of NoneAllowed = none_allowed
 chosen_of (At c) = cut c.index c.left_size c.right_size
 
--- the number and the values of each case of the answer
-abbrev pub outcome_of : CutAnswer → Outcome Chosen
-outcome_of (Refused n) = refused n
-outcome_of (Answered c) = accepted (chosen_of c)
+-- the number, or the values of the cut
+abbrev pub outcome_of : Result Cut Refusal → Outcome Chosen
+outcome_of answer = mapped chosen_of (answers.outcome_of answer)

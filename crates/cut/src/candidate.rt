@@ -1,6 +1,5 @@
 // One place to cut, and how two of them compare.
-ghost use Rattle.std.specs.Prelude.{◌≡◌, cond};
-ghost use Rattle.std.specs.Float.Ieee.{lt};
+ghost use Rattle.std.specs.Prelude.{◌≡◌};
 ghost use Rattle.cut.specs.Candidate.{oversized, larger_side, beats_by_size, beats};
 
 // A cut at an index: the similarity of the two ids that it parts, and the sizes of its two sides.
@@ -14,12 +13,14 @@ pub struct Candidate {
 
 impl Candidate {
     // How many sides are above the maximum.
+    #[tactic(auto, unfolding(crate::specs::Candidate::oversized))]
     pub fn oversized_side_count(self, maximum: f64) -> u32
         ensures { result ≡ oversized maximum self }
     {
-        above(maximum, self.left) + above(maximum, self.right)
+        u32::from(maximum < self.left) + u32::from(maximum < self.right)
     }
 
+    #[tactic(auto, unfolding(crate::specs::Candidate::larger_side))]
     pub fn max_side_size(self) -> f64
         ensures { result ≡ larger_side self }
     {
@@ -30,6 +31,7 @@ impl Candidate {
     }
 
     // The comparison by sizes, where the similarities differ by at most 10.
+    #[tactic(auto, unfolding(crate::specs::Candidate::beats_by_size))]
     pub fn beats_by_size(self, best: Candidate, maximum: f64) -> bool
         ensures { result ≡ beats_by_size maximum self best }
     {
@@ -45,6 +47,7 @@ impl Candidate {
     }
 
     // Whether this later cut replaces the best so far. Wider numbers, so that the sums can't wrap.
+    #[tactic(auto, unfolding(crate::specs::Candidate::beats))]
     pub fn is_better(self, best: Candidate, maximum: f64) -> bool
         ensures { result ≡ beats maximum self best }
     {
@@ -58,14 +61,4 @@ impl Candidate {
         }
         self.beats_by_size(best, maximum)
     }
-}
-
-// 1 for a side above the maximum, else 0.
-fn above(maximum: f64, side: f64) -> u32
-    ensures { result ≡ cond (lt maximum side) 1 0 }
-{
-    if maximum < side {
-        return 1;
-    }
-    0
 }

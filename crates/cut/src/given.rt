@@ -11,7 +11,8 @@ ghost use Rattle.cut.specs.Scan.{considered};
 use crate::Cut;
 use crate::alike::similarity_between;
 use crate::candidate::Candidate;
-use crate::scan::{Best, Bounds, both_reach};
+use crate::scan::{Bounds, both_reach, into_cut, or_better};
+use ids::parts::Ids;
 use index::ModuleIdx;
 
 // All sizes, added one after the other.
@@ -20,29 +21,26 @@ fn total_of(sizes: &[u64]) -> f64
     ensures { result ≡ sum_f64 sizes.now }
 {
     let mut total = 0.0;
-    let mut i = 0;
-    while i < sizes.len() {
-        total = total + sizes[i] as f64;
-        i = i + 1;
+    for &size in sizes {
+        total += size as f64;
     }
     total
 }
 
 // The best cut once place i was looked at. The ids are compared only if the cut is allowed.
 fn look_at(
-    bytes: &[u8],
-    offsets: &[u32],
+    ids: &Ids,
     i: usize,
     left: f64,
     right: f64,
     bounds: Bounds,
-    best: Best,
-) -> Best
-    requires named_pair { NamedPair bytes.now offsets.now (i - 1) i }
+    best: Option<Candidate>,
+) -> Option<Candidate>
+    requires named_pair { NamedPair ids.now.bytes.now ids.now.offsets.now (i - 1) i }
     requires le_i { (1 ≤ i) × (i < 2 ^ 32) }
     ensures { result ≡ considered bounds best (record {
       index = i;
-      similarity = alike bytes.now offsets.now (i - 1) i;
+      similarity = alike ids.now.bytes.now ids.now.offsets.now (i - 1) i;
       left = left;
       right = right;
     }) }
@@ -52,31 +50,29 @@ fn look_at(
     }
     let before = (i - 1) as u32;
     let after = i as u32;
-    let similarity = similarity_between(bytes, offsets, ModuleIdx(before), ModuleIdx(after));
+    let similarity = similarity_between(ids, ModuleIdx(before), ModuleIdx(after));
     let candidate = Candidate {
         index: i,
         similarity,
         left,
         right,
     };
-    best.or_better(candidate, bounds.maximum)
+    or_better(best, candidate, bounds.maximum)
 }
 
 // The cut of ids and sizes in the order given.
-pub fn pick_given(bytes: &[u8], offsets: &[u32], sizes: &[u64], minimum: f64, maximum: f64) -> Cut
-    requires { GivenOrder bytes.now offsets.now sizes.now }
-    ensures { chosen_of result ≡ cut_of (ids_of (length sizes.now) bytes.now offsets.now)
+pub fn pick_given(ids: &Ids, sizes: &[u64], minimum: f64, maximum: f64) -> Cut
+    requires { GivenOrder ids.now.bytes.now ids.now.offsets.now sizes.now }
+    ensures { chosen_of result ≡ cut_of (ids_of (length sizes.now) ids.now.bytes.now ids.now.offsets.now)
         sizes.now minimum maximum }
 {
     let bounds = Bounds { minimum, maximum };
     let total = total_of(sizes);
-    let mut best = Best::Nothing;
+    let mut best = None;
     let mut left = 0.0;
-    let mut i = 1;
-    while i < sizes.len() {
-        left = left + sizes[i - 1] as f64;
-        best = look_at(bytes, offsets, i, left, total - left, bounds, best);
-        i = i + 1;
+    for i in 1..sizes.len() {
+        left += sizes[i - 1] as f64;
+        best = look_at(ids, i, left, total - left, bounds, best);
     }
-    best.into_cut(sizes.len())
+    into_cut(best, sizes.len())
 }

@@ -11,6 +11,9 @@ pub mod tabled;
 ghost use Rattle.std.specs.Prelude.{◌≡◌};
 ghost use Rattle.cut.specs.Call.{cut_call, outcome_of};
 
+use ids::parts::Ids;
+use refusal::Refusal;
+
 // A cut: the index of the first module on the right, and the sizes of the two sides.
 #[derive(Clone, Copy)]
 pub struct CutPoint {
@@ -27,43 +30,36 @@ pub enum Cut {
     At(CutPoint),
 }
 
-#[derive(Clone, Copy)]
-pub enum CutAnswer {
-    Refused(u32),
-    Answered(Cut),
-}
-
 // The public call: ids and sizes in the order given.
 pub fn pick_relevance_split_index(
     n: usize,
-    bytes: &[u8],
-    offsets: &[u32],
+    ids: &Ids,
     sizes: &[u64],
     minimum: f64,
     maximum: f64,
-) -> CutAnswer
-    ensures { outcome_of result ≡ cut_call n bytes.now offsets.now sizes.now minimum maximum }
+) -> Result<Cut, Refusal>
+    ensures { outcome_of result ≡ cut_call n ids.now.bytes.now ids.now.offsets.now sizes.now minimum maximum }
 {
     if refusal::MODULE_LIMIT < n {
-        return CutAnswer::Refused(refusal::COUNT);
+        return Err(Refusal::Count);
     }
-    if offsets.len() != n + 1 {
-        return CutAnswer::Refused(refusal::LENGTH);
+    if ids.offsets.len() != n + 1 {
+        return Err(Refusal::Length);
     }
     if sizes.len() != n {
-        return CutAnswer::Refused(refusal::LENGTH);
+        return Err(Refusal::Length);
     }
-    if ids::offsets::bad_offsets(ids::offsets::ID_LIMIT, bytes.len(), offsets) {
-        return CutAnswer::Refused(refusal::ID);
+    if ids::offsets::bad_offsets(ids::offsets::ID_LIMIT, ids.bytes.len(), ids.offsets) {
+        return Err(Refusal::Id);
     }
     if whole::total_exceeds(sizes) {
-        return CutAnswer::Refused(refusal::TOTAL);
+        return Err(Refusal::Total);
     }
     if limit::is_nan(minimum) {
-        return CutAnswer::Refused(refusal::NAN);
+        return Err(Refusal::Nan);
     }
     if limit::is_nan(maximum) {
-        return CutAnswer::Refused(refusal::NAN);
+        return Err(Refusal::Nan);
     }
-    CutAnswer::Answered(given::pick_given(bytes, offsets, sizes, minimum, maximum))
+    Ok(given::pick_given(ids, sizes, minimum, maximum))
 }

@@ -7,13 +7,6 @@ ghost use Rattle.cut.specs.Scan.{replaced, ruled_out, considered, chosen_from};
 use crate::candidate::Candidate;
 use crate::{Cut, CutPoint};
 
-// The best of the allowed cuts that were looked at.
-#[derive(Clone, Copy)]
-pub enum Best {
-    Nothing,
-    Found(Candidate),
-}
-
 // The least size that a side reaches, and the size above which it is too large.
 #[derive(Clone, Copy)]
 pub struct Bounds {
@@ -21,65 +14,53 @@ pub struct Bounds {
     pub maximum: f64,
 }
 
-impl Best {
-    // The best so far, or a later allowed cut that replaces it.
-    pub fn or_better(self, candidate: Candidate, maximum: f64) -> Best
-        ensures { result ≡ replaced maximum self candidate }
-    {
-        match self {
-            Best::Nothing => Best::Found(candidate),
-            Best::Found(best) => {
-                if candidate.is_better(best, maximum) {
-                    return Best::Found(candidate);
-                }
-                Best::Found(best)
-            }
-        }
+// The best of the allowed cuts so far, or a later allowed cut that replaces it.
+#[tactic(auto, unfolding(crate::specs::Cut::better))]
+pub fn or_better(best: Option<Candidate>, later: Candidate, maximum: f64) -> Option<Candidate>
+    ensures { result ≡ replaced maximum best later }
+{
+    match best {
+        Some(so_far) => if later.is_better(so_far, maximum) {
+            Some(later)
+        } else {
+            best
+        },
+        None => Some(later),
     }
+}
 
-    // Whether ids are too alike for a cut between them to replace the best, whatever its sides are.
-    pub fn rules_out(self, similarity: u32) -> bool
-        ensures { result ≡ ruled_out self similarity }
-    {
-        match self {
-            Best::Nothing => false,
-            Best::Found(best) => {
-                let other = best.similarity as u64;
-                other + 10 < (similarity as u64)
-            }
-        }
+// Whether ids are too alike for a cut between them to replace the best, whatever its sides are.
+pub fn rules_out(best: Option<Candidate>, similarity: u32) -> bool
+    ensures { result ≡ ruled_out best similarity }
+{
+    best.is_some_and(|so_far| so_far.similarity as u64 + 10 < similarity as u64)
+}
+
+// The best once a cut was looked at. Most cuts fall by their similarity, so that it is tested first.
+pub fn consider(best: Option<Candidate>, later: Candidate, bounds: Bounds) -> Option<Candidate>
+    ensures { result ≡ considered bounds best later }
+{
+    if rules_out(best, later.similarity) {
+        return best;
     }
-
-    // The best once a cut was looked at. Most cuts fall by their similarity, so that it is tested first.
-    pub fn consider(self, candidate: Candidate, bounds: Bounds) -> Best
-        ensures { result ≡ considered bounds self candidate }
-    {
-        if self.rules_out(candidate.similarity) {
-            return self;
-        }
-        if !both_reach(bounds.minimum, candidate.left, candidate.right) {
-            return self;
-        }
-        self.or_better(candidate, bounds.maximum)
+    if !both_reach(bounds.minimum, later.left, later.right) {
+        return best;
     }
+    or_better(best, later, bounds.maximum)
+}
 
-    // What was found among so many modules. Where it is nothing, their number says why.
-    pub fn into_cut(self, count: usize) -> Cut
-        ensures { chosen_of result ≡ chosen_from count self }
-    {
-        match self {
-            Best::Nothing => {
-                if count < 2 {
-                    return Cut::FewerThanTwo;
-                }
-                Cut::NoneAllowed
-            }
-            Best::Found(best) => Cut::At(CutPoint {
-                index: best.index,
-                left_size: best.left,
-                right_size: best.right,
-            }),
-        }
+// What was found among so many modules. Where it is nothing, their number says why.
+pub fn into_cut(best: Option<Candidate>, count: usize) -> Cut
+    ensures { chosen_of result ≡ chosen_from count best }
+{
+    match best {
+        Some(found) => Cut::At(CutPoint {
+            index: found.index,
+            left_size: found.left,
+            right_size: found.right,
+        }),
+        None if count < 2 => Cut::FewerThanTwo,
+        None => Cut::NoneAllowed,
     }
 }
 
@@ -87,8 +68,5 @@ impl Best {
 pub fn both_reach(minimum: f64, left: f64, right: f64) -> bool
     ensures { result ≡ (le minimum left && le minimum right) }
 {
-    if !(minimum <= left) {
-        return false;
-    }
-    minimum <= right
+    minimum <= left && minimum <= right
 }

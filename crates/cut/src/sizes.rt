@@ -18,10 +18,8 @@ pub fn total_size(sizes: &[u64], order: &[u32]) -> f64
     ensures { result ≡ sum_f64 (sizes_in sizes.now order.now) }
 {
     let mut total = 0.0;
-    let mut i = 0;
-    while i < order.len() {
-        total = total + size_at(sizes, order, i);
-        i = i + 1;
+    for &module in order {
+        total += sizes[module as usize] as f64;
     }
     total
 }

@@ -6,7 +6,7 @@ ghost use Rattle.cut.specs.Tables.{Tabled};
 
 use crate::Cut;
 use crate::candidate::Candidate;
-use crate::scan::{Best, Bounds};
+use crate::scan::{Bounds, consider, into_cut};
 
 // The cut of modules of a total size, by how alike each is to the one before it and by the sizes that lie before each.
 pub fn pick_by_similarity(
@@ -21,9 +21,8 @@ pub fn pick_by_similarity(
 {
     let bounds = Bounds { minimum, maximum };
     let before = sums[0];
-    let mut best = Best::Nothing;
-    let mut i = 1;
-    while i < similar.len() {
+    let mut best = None;
+    for i in 1..similar.len() {
         let left = sums[i] - before;
         let candidate = Candidate {
             index: i,
@@ -31,8 +30,7 @@ pub fn pick_by_similarity(
             left,
             right: total - left,
         };
-        best = best.consider(candidate, bounds);
-        i = i + 1;
+        best = consider(best, candidate, bounds);
     }
-    best.into_cut(similar.len())
+    into_cut(best, similar.len())
 }

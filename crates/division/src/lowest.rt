@@ -7,21 +7,14 @@ ghost use Rattle.division.specs.Divided.{lowest_ranks, Divisible};
 fn lower(lowest: u32, own: u32) -> u32
     ensures { result ≡ earlier ltb lowest own }
 {
-    if own < lowest {
-        return own;
-    }
-    lowest
+    lowest.min(own)
 }
 
 // Writes 4,096, which is above every rank, for each subgroup.
 pub fn clear_lowest(lowest: &mut [u32])
     ensures { lowest.new ≡ replicate (length lowest.old) 4096 }
 {
-    let mut i = 0;
-    while i < lowest.len() {
-        lowest[i] = 4096;
-        i = i + 1;
-    }
+    lowest.fill(4096);
 }
 
 // Finds the lowest rank in each subgroup in one pass over the set.
@@ -31,10 +24,8 @@ pub fn find_lowest(finals: &[u32], kind_of: &[u32], set: &[u32], rank: &[u32], l
     ensures { lowest.new ≡ lowest_ranks finals.now kind_of.now set.now rank.now
         (length kind_of.now) (length kind_of.now) }
 {
-    let mut i = 0;
-    while i < kind_of.len() {
-        let number = finals[kind_of[i] as usize] as usize;
+    for (i, kind) in kind_of.iter().enumerate() {
+        let number = finals[*kind as usize] as usize;
         lowest[number] = lower(lowest[number], rank[set[i] as usize]);
-        i = i + 1;
     }
 }

@@ -8,7 +8,7 @@ use lib.ListN.{length, get_or, set, take, drop, length-take, length-set}
 use lib.Seq.{get_or-take, get_or-drop}
 use Rattle.bitset.specs.Rows.{with_row}
 use Rattle.bitset.proofs.Rows.{length_with_row}
-use Rattle.emitting.specs.Emitted.{Work, Emission, Room, bits_of_chunk, with_number, with_chunk}
+use Rattle.emitting.specs.Emitted.{Work, Emission, Room, bits_of_chunk, with_number, with_chunk, SameLengths}
 
 -- what is written field by field is the chunk
 pub record Written (bits : List ℕ) (number at : ℕ) (e : Emission) (before after : Work) : Type 0 where
@@ -32,14 +32,6 @@ written_chunk {number = number} {e = e} {before = before} p = λ i. record {
 }
 
 -- ---- lengths
-
-pub record SameLengths (v w : Work) : Type 0 where
-  pub chunk_of : length v.chunk_of ≡ length w.chunk_of
-  pub group_of : length v.group_of ≡ length w.group_of
-  pub name_of : length v.name_of ≡ length w.name_of
-  pub size_of : length v.size_of ≡ length w.size_of
-  pub bits_of : length v.bits_of ≡ length w.bits_of
-  pub mark_of : length v.mark_of ≡ length w.mark_of
 
 pub same_lengths : (w : Work) → SameLengths w w
 same_lengths w = record { chunk_of = refl; group_of = refl; name_of = refl; size_of = refl; bits_of = refl; mark_of = refl }

@@ -3,8 +3,8 @@ use Prim.Native.Nat.{ℕ, suc, ◌+◌, ◌*◌, ◌≤◌}
 use mathlib.Core.List.{List, [], ◌∷◌}
 use native.Mathlib.Omega.{arith}
 use lib.ListN.{length}
-use Rattle.emitting.specs.Emitted.{Work, Emission, with_chunk, with_chunks}
-use Rattle.emitting.proofs.Chunk.{SameLengths, same_lengths, lengths_kept, room_kept}
+use Rattle.emitting.specs.Emitted.{Work, Emission, with_chunk, with_chunks, SameLengths}
+use Rattle.emitting.proofs.Chunk.{same_lengths, lengths_kept, room_kept}
 
 -- chunks with room for the words of their records keep the lengths of all areas
 pub chunks_lengths : (bits : List ℕ) (number at : ℕ) (es : List Emission) (w : Work) → 4 * at + 4 * length es ≤ length w.bits_of

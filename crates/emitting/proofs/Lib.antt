@@ -5,3 +5,5 @@ pub mod Turn
 pub mod Numbers
 pub mod RecordsRead
 pub mod Chunks
+pub mod Backwards
+pub mod SameAreas

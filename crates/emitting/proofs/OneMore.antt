@@ -1,5 +1,5 @@
 -- One module more: the chunk numbers and the union of the entry bits after it.
-use Prim.Native.Nat.{ℕ, suc, ◌+◌, ◌-◌, ◌<◌, ◌≤◌}
+use Prim.Native.Nat.{ℕ, suc, ◌+◌, ◌-◌, ◌<◌}
 use mathlib.Core.List.{List, [], ◌∷◌, foldl}
 use mathlib.Core.Path.{◌≡◌, ap, ◌∙◌}
 use native.Mathlib.Numerals.{add-one}
@@ -19,11 +19,15 @@ number_more members chunk_of number i h =
     ap (λ l. foldl put chunk_of l) (ap (λ n. take n members) (add-one i) ∙ take-suc members i 0 h)
     ∙ foldl_append put chunk_of (take i members) (get_or members i 0 ∷ [])
 
--- the union over the modules from one before
-pub union_more : (bits members : List ℕ) (left : ℕ) → 0 < left → left ≤ length members
-    → union_of_modules bits (drop (left - 1) members) ≡ union_of (row_of bits (get_or members (left - 1) 0)) (union_of_modules bits (drop left members))
+-- the union over the last k modules and one before them
+pub union_more : (bits members : List ℕ) (k : ℕ) → k < length members
+    → union_of_modules bits (drop (length members - (k + 1)) members)
+    ≡ union_of (row_of bits (get_or members (length members - 1 - k) 0)) (union_of_modules bits (drop (length members - k) members))
 unfolding union_of_modules
-union_more bits members left h k =
-    let back : suc (left - 1) ≡ left = omega arith in
-    ap (union_of_modules bits) (drop-cons members (left - 1) 0 (omega arith))
-    ∙ ap (λ n. union_of (row_of bits (get_or members (left - 1) 0)) (union_of_modules bits (drop n members))) back
+union_more bits members k h =
+    let at : ℕ = length members - 1 - k in
+    let first : length members - (k + 1) ≡ at = omega arith in
+    let back : suc at ≡ length members - k = omega arith in
+    ap (λ n. union_of_modules bits (drop n members)) first
+    ∙ ap (union_of_modules bits) (drop-cons members at 0 (omega arith))
+    ∙ ap (λ n. union_of (row_of bits (get_or members at 0)) (union_of_modules bits (drop n members))) back

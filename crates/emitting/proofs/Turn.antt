@@ -8,9 +8,9 @@ use native.Mathlib.Omega.{arith}
 use lib.Ieee.{Float}
 use lib.ListN.{length, get_or, take, drop, drop_of_length-le}
 use lib.Seq.{drop-cons}
-use Rattle.emitting.specs.Emitted.{Work, Emission, Room, Parts, with_chunk, with_chunks, parts_from, emissions}
+use Rattle.emitting.specs.Emitted.{Work, Emission, Room, Parts, with_chunk, with_chunks, parts_from, emissions, SameLengths}
 use Rattle.emitting.specs.declared.emit.Head.{Head}
-use Rattle.emitting.proofs.Chunk.{SameLengths, same_lengths, lengths_kept, room_kept, room_part}
+use Rattle.emitting.proofs.Chunk.{same_lengths, lengths_kept, room_kept, room_part}
 
 -- the part of a list from start to end, as a chunk
 abbrev pub part_of : Head → List ℕ → ℕ → ℕ → Float → ℕ → Emission

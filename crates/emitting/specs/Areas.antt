@@ -1,5 +1,5 @@
 -- What the areas hold once several chunks were emitted, area by area.
-use Rattle.std.specs.Prelude.{ℕ, suc, ◌+◌, cond}
+use Rattle.std.specs.Prelude.{ℕ, suc, cond}
 use mathlib.Core.List.{List, [], ◌∷◌, ◌++◌, foldr}
 use Rattle.lists.specs.Elem.{elem}
 use Rattle.emitting.specs.Emitted.{Emission, bits_of_chunk, union_of_modules}

@@ -4,6 +4,7 @@ use mathlib.Core.List.{List, [], ◌∷◌, foldl, foldr}
 use Rattle.bitset.specs.Entries.{empty, union_of, row_of}
 use Rattle.bitset.specs.Rows.{with_row}
 use Rattle.bitset.specs.declared.entries.BitSet.{BitSet}
+use Rattle.emitting.specs.declared.ChunkAreas.{ChunkAreas}
 use Rattle.emitting.specs.declared.emit.Head.{Head}
 
 -- the areas: per module its chunk number plus 1; per chunk its group, name, size, entry bits and mark
@@ -14,6 +15,37 @@ pub record Work : Type 0 where
   pub size_of : List Float
   pub bits_of : List ℕ
   pub mark_of : List ℕ
+
+-- what the areas hold
+abbrev pub work : ChunkAreas → Work
+work areas =
+    record {
+      chunk_of = areas.chunk_of.now;
+      group_of = areas.group_of.now;
+      name_of = areas.name_of.now;
+      size_of = areas.size_of.now;
+      bits_of = areas.bits_of.now;
+      mark_of = areas.mark_of.now;
+    }
+
+-- each area is as long as before
+pub record SameLengths (v w : Work) : Type 0 where
+  pub chunk_of : length v.chunk_of ≡ length w.chunk_of
+  pub group_of : length v.group_of ≡ length w.group_of
+  pub name_of : length v.name_of ≡ length w.name_of
+  pub size_of : length v.size_of ≡ length w.size_of
+  pub bits_of : length v.bits_of ≡ length w.bits_of
+  pub mark_of : length v.mark_of ≡ length w.mark_of
+
+-- the areas are the ones that were lent, each as long as before: no field was pointed elsewhere
+pub record SameAreas (before after : ChunkAreas) : Type 0 where
+  pub chunk_of : after.chunk_of.ghost_name ≡ before.chunk_of.ghost_name
+  pub group_of : after.group_of.ghost_name ≡ before.group_of.ghost_name
+  pub name_of : after.name_of.ghost_name ≡ before.name_of.ghost_name
+  pub size_of : after.size_of.ghost_name ≡ before.size_of.ghost_name
+  pub bits_of : after.bits_of.ghost_name ≡ before.bits_of.ghost_name
+  pub mark_of : after.mark_of.ghost_name ≡ before.mark_of.ghost_name
+  pub lengths : SameLengths (work after) (work before)
 
 -- a chunk that is emitted: what it shares with the other chunks of its item, its modules, its size and its mark
 pub record Emission : Type 0 where

@@ -1,7 +1,8 @@
 // One chunk emitted, and the pieces of an item emitted one after the other.
 ghost use Rattle.std.specs.Prelude.{◌≡◌, ◌+◌, ◌<◌, ◌^◌, length};
-ghost use Rattle.emitting.specs.Emitted.{bits_of_chunk, with_chunk, with_chunks, parts_from, emissions, HasBits, Room, Parts};
+ghost use Rattle.emitting.specs.Emitted.{bits_of_chunk, with_chunk, with_chunks, parts_from, emissions, HasBits, Room, Parts, work, SameAreas};
 
+use crate::ChunkAreas;
 use crate::members::{add_modules_to_chunk, union_of};
 use crate::records::store_fields;
 use bitset::entries::BitSet;
@@ -37,44 +38,27 @@ pub fn emit_chunk(
     bits: &[u64],
     number: ChunkIdx,
     at: usize,
-    chunk_of: &mut [u32],
-    group_of: &mut [u32],
-    name_of: &mut [u32],
-    size_of: &mut [f64],
-    bits_of: &mut [u64],
-    mark_of: &mut [u8],
+    areas: &mut ChunkAreas,
 )
-    requires room { Room bits.now members.now (record {
-      chunk_of = chunk_of.old;
-      group_of = group_of.old;
-      name_of = name_of.old;
-      size_of = size_of.old;
-      bits_of = bits_of.old;
-      mark_of = mark_of.old;
-    }) at }
+    requires room { Room bits.now members.now (work areas.old) at }
     requires number_bound { number.0 + 1 < 2 ^ 32 }
-    ensures { record {
-      chunk_of = chunk_of.new;
-      group_of = group_of.new;
-      name_of = name_of.new;
-      size_of = size_of.new;
-      bits_of = bits_of.new;
-      mark_of = mark_of.new;
-    } ≡ with_chunk bits.now number.0 at (record { head = head; modules = members.now; size = size; mark = mark }) (record {
-      chunk_of = chunk_of.old;
-      group_of = group_of.old;
-      name_of = name_of.old;
-      size_of = size_of.old;
-      bits_of = bits_of.old;
-      mark_of = mark_of.old;
-    }) }
+    ensures emitted { work areas.new ≡ with_chunk bits.now number.0 at (record { head = head; modules = members.now; size = size; mark = mark }) (work areas.old) }
+    ensures same { SameAreas areas.old areas.new }
 {
     let own = chunk_bits(head, bits, members);
-    add_modules_to_chunk(members, chunk_of, number.0 + 1);
+    add_modules_to_chunk(members, areas.chunk_of, number.0 + 1);
     store_fields(
-        group_of, name_of, size_of, mark_of, at, head.group, head.name, size, mark,
+        areas.group_of,
+        areas.name_of,
+        areas.size_of,
+        areas.mark_of,
+        at,
+        head.group,
+        head.name,
+        size,
+        mark,
     );
-    store_row(bits_of, at, own);
+    store_row(areas.bits_of, at, own);
 }
 
 // Emits the parts of a list that begin at `starts`, from its end to its start.
@@ -87,43 +71,17 @@ pub fn emit_parts(
     bits: &[u64],
     number: ChunkIdx,
     at: usize,
-    chunk_of: &mut [u32],
-    group_of: &mut [u32],
-    name_of: &mut [u32],
-    size_of: &mut [f64],
-    bits_of: &mut [u64],
-    mark_of: &mut [u8],
+    areas: &mut ChunkAreas,
 )
-    requires parts { Parts bits.now members.now starts.now sizes.now marks.now (record {
-      chunk_of = chunk_of.old;
-      group_of = group_of.old;
-      name_of = name_of.old;
-      size_of = size_of.old;
-      bits_of = bits_of.old;
-      mark_of = mark_of.old;
-    }) at }
+    requires parts { Parts bits.now members.now starts.now sizes.now marks.now (work areas.old) at }
     requires starts_bound { number.0 + length starts.now < 2 ^ 32 }
-    ensures { record {
-      chunk_of = chunk_of.new;
-      group_of = group_of.new;
-      name_of = name_of.new;
-      size_of = size_of.new;
-      bits_of = bits_of.new;
-      mark_of = mark_of.new;
-    } ≡ with_chunks bits.now number.0 at
+    ensures emitted { work areas.new ≡ with_chunks bits.now number.0 at
         (emissions head (parts_from members.now (length members.now) starts.now)
-        sizes.now marks.now) (record {
-          chunk_of = chunk_of.old;
-          group_of = group_of.old;
-          name_of = name_of.old;
-          size_of = size_of.old;
-          bits_of = bits_of.old;
-          mark_of = mark_of.old;
-        }) }
+        sizes.now marks.now) (work areas.old) }
+    ensures same { SameAreas areas.old areas.new }
 {
     let mut end = members.len();
-    let mut j = 0;
-    while j < starts.len() {
+    for j in 0..starts.len() {
         let start = starts[j] as usize;
         let next = ChunkIdx(number.0 + j as u32);
         emit_chunk(
@@ -134,14 +92,8 @@ pub fn emit_parts(
             bits,
             next,
             at + j,
-            chunk_of,
-            group_of,
-            name_of,
-            size_of,
-            bits_of,
-            mark_of,
+            areas,
         );
         end = start;
-        j = j + 1;
     }
 }

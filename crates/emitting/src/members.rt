@@ -11,10 +11,8 @@ pub fn union_of(bits: &[u64], members: &[u32]) -> BitSet
     ensures { result ≡ union_of_modules bits.now members.now }
 {
     let mut union = BitSet::new();
-    let mut left = members.len();
-    while 0 < left {
-        left = left - 1;
-        let own = row(bits, members[left] as usize);
+    for m in members.iter().rev() {
+        let own = row(bits, *m as usize);
         union = own.union(union);
     }
     union
@@ -25,10 +23,8 @@ pub fn add_modules_to_chunk(members: &[u32], chunk_of: &mut [u32], number: u32)
     requires { HasEntry chunk_of.old members.now }
     ensures { chunk_of.new ≡ with_number members.now number chunk_of.old }
 {
-    let mut i = 0;
-    while i < members.len() {
-        let m = members[i] as usize;
+    for module in members {
+        let m = *module as usize;
         chunk_of[m] = number;
-        i = i + 1;
     }
 }

@@ -27,9 +27,9 @@ use Rattle.grouping_laws.proofs.SetPlaces.{Placed}
 use Rattle.settling.specs.Modules.{modules_at}
 use Rattle.settling.specs.Settled.{settled}
 use Rattle.settling.specs.Traversal.{in_turn}
-use Rattle.emitting.specs.Emitted.{Work, HasEntry}
+use Rattle.emitting.specs.Emitted.{Work, HasEntry, SameLengths}
 use Rattle.emitting.specs.declared.emit.Head.{Head}
-use Rattle.emitting.proofs.Chunk.{SameLengths, same_lengths, lengths_kept}
+use Rattle.emitting.proofs.Chunk.{same_lengths, lengths_kept}
 use Rattle.left.specs.Untaken.{untaken}
 use Rattle.pieces.specs.Chunks.{Converted}
 use Rattle.items.specs.Turn.{Tables, emitted_from, ItemReady}

@@ -13,13 +13,11 @@ pub fn list_modules(flags: &[u8], list: &mut [u32]) -> usize
     ensures { Kept (listed_in flags.now) result list.old list.new }
 {
     let mut count = 0;
-    let mut m = 0;
-    while m < flags.len() {
+    for (m, byte) in flags.iter().enumerate() {
         list[count] = m as u32;
-        if is_listed(flags[m]) {
-            count = count + 1;
+        if is_listed(*byte) {
+            count += 1;
         }
-        m = m + 1;
     }
     count
 }
@@ -30,14 +28,11 @@ pub fn keep_eligible(flags: &[u8], list: &[u32], order: &mut [u32]) -> usize
     ensures { Kept (keep (eligible_at flags.now) list.now) result order.old order.new }
 {
     let mut count = 0;
-    let mut i = 0;
-    while i < list.len() {
-        let m = list[i];
-        order[count] = m;
-        if is_eligible_at(flags, ModuleIdx(m)) {
-            count = count + 1;
+    for m in list {
+        order[count] = *m;
+        if is_eligible_at(flags, ModuleIdx(*m)) {
+            count += 1;
         }
-        i = i + 1;
     }
     count
 }

@@ -1,6 +1,6 @@
--- The ways out of the filter: what one test that fails says of the whole, and what is left where all tests before it passed.
+-- The ways out of the call: what each refusal says of it, and what is left where none applies.
 use Prim.Native.Nat.{ℕ, ◌≤◌, ◌<◌}
-use mathlib.Core.Bool.{Bool, true, false, and-false, or-true}
+use mathlib.Core.Bool.{Bool, true, false, or-true}
 use mathlib.Core.List.{[], ◌∷◌}
 use mathlib.Core.Path.{◌≡◌}
 use native.Mathlib.Nat.{add-zero}
@@ -9,35 +9,12 @@ use Rattle.lists.specs.Sum.{sum}
 use Rattle.refusal.specs.Outcome.{Outcome, refused, accepted}
 use Rattle.refusal.proofs.Ladder as ladder
 use Rattle.refusal.proofs.Ladder.{Row}
-use Rattle.whole.specs.Double.{to_f64}
 use Rattle.whole.specs.Total.{total_limit, total_exceeds}
-use Rattle.limit.specs.Limits.{is_nan_limit, at_least, at_most}
-use Rattle.bitset.specs.Word.{contains}
-use Rattle.filter.specs.Filter.{shared_enough, passes, filter_tests, filter_call}
+use Rattle.limit.specs.Limits.{is_nan_limit}
+use Rattle.filter.specs.Filter.{passes, filter_tests, filter_call}
 use Rattle.filter.specs.declared.StaticFilter.{StaticFilter}
 
 module _ (f : StaticFilter) (tags size shares : ℕ) where
-  -- ---- the four tests of a module
-  pub tags_missing : contains tags f.tags ≡ false → passes f tags size shares ≡ false
-  unfolding passes
-  tags_missing e = rw e
-
-  pub too_small : at_least f.min_module_size (to_f64 size) ≡ false → passes f tags size shares ≡ false
-  unfolding passes
-  too_small e = simp (e, and-false)
-
-  pub too_large : at_most f.max_module_size (to_f64 size) ≡ false → passes f tags size shares ≡ false
-  unfolding passes
-  too_large e = simp (e, and-false)
-
-  pub only_shares : contains tags f.tags ≡ true
-      → at_least f.min_module_size (to_f64 size) ≡ true
-      → at_most f.max_module_size (to_f64 size) ≡ true
-      → passes f tags size shares ≡ shared_enough f.min_share_count shares
-  unfolding passes
-  only_shares p q r = simp (p, q, r)
-
-  -- ---- the two refusals
   by : {o : Outcome Bool} → Row (passes f tags size shares) (filter_tests f size) o → filter_call f tags size shares ≡ o
   unfolding filter_call
   by r = ladder.row r

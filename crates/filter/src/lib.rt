@@ -2,92 +2,48 @@
 #![tactic(auto)]
 
 ghost use Rattle.std.specs.Prelude.{◌≡◌, ◌≤◌, ◌^◌};
-ghost use Rattle.filter.specs.Filter.{shared_enough, passes, no_limit, no_minimum, asks_nothing, filter_call, outcome_of};
+ghost use Rattle.refusal.specs.Answers.{outcome_of};
+ghost use Rattle.filter.specs.Filter.{shared_enough, passes, asks_nothing, filter_call};
 
-use limit::Limit;
-
-// The least share count that is asked for, if one is.
-#[derive(Clone, Copy)]
-pub enum MinShareCount {
-    Absent,
-    Given(u32),
-}
+use refusal::Refusal;
 
 // The limits in force for a group, and the tags that it asks for.
 #[derive(Clone, Copy)]
 pub struct StaticFilter {
     pub tags: u64,
-    pub min_module_size: Limit,
-    pub max_module_size: Limit,
-    pub min_share_count: MinShareCount,
+    pub min_module_size: Option<f64>,
+    pub max_module_size: Option<f64>,
+    pub min_share_count: Option<u32>,
 }
 
-#[derive(Clone, Copy)]
-pub enum Filtered {
-    Refused(u32),
-    Passes(bool),
-}
-
-impl MinShareCount {
-    pub fn shared_enough(self, count: u32) -> bool
-        ensures { result ≡ shared_enough self count }
-    {
-        match self {
-            MinShareCount::Absent => true,
-            MinShareCount::Given(minimum) => minimum <= count,
-        }
-    }
-
-    fn is_absent(self) -> bool
-        ensures { result ≡ no_minimum self }
-    {
-        match self {
-            MinShareCount::Absent => true,
-            MinShareCount::Given(_) => false,
-        }
-    }
-}
-
-fn no_limit(limit: Limit) -> bool
-    ensures { result ≡ no_limit limit }
+#[tactic(auto, unfolding(crate::specs::Filter::shared_enough))]
+pub fn shared_enough(least: Option<u32>, count: u32) -> bool
+    ensures { result ≡ shared_enough least count }
 {
-    match limit {
-        Limit::Absent => true,
-        Limit::Given(_) => false,
-    }
+    least.is_none_or(|minimum| minimum <= count)
 }
 
 // Whether a filter asks nothing, so that every module passes and none has to be looked at.
+#[tactic(auto, unfolding(crate::specs::Filter::asks_nothing))]
 pub fn asks_nothing(filter: StaticFilter) -> bool
     ensures { result ≡ asks_nothing filter }
 {
-    let min_module_size = filter.min_module_size;
-    let max_module_size = filter.max_module_size;
-    let min_share_count = filter.min_share_count;
-    (filter.tags == 0)
-        & no_limit(min_module_size)
-        & no_limit(max_module_size)
-        & min_share_count.is_absent()
+    filter.tags == 0
+        && filter.min_module_size.is_none()
+        && filter.max_module_size.is_none()
+        && filter.min_share_count.is_none()
 }
 
 // Whether a module of at most 2^53 bytes passes.
+#[tactic(auto, unfolding(crate::specs::Filter::passes))]
 pub fn passes_within(filter: StaticFilter, tags: u64, size: u64, share_count: u32) -> bool
     requires { size ≤ 2 ^ 53 }
     ensures { result ≡ passes filter tags size share_count }
 {
-    if !bitset::word::contains_all(tags, filter.tags) {
-        return false;
-    }
-    let min_module_size = filter.min_module_size;
-    if !min_module_size.at_least(size as f64) {
-        return false;
-    }
-    let max_module_size = filter.max_module_size;
-    if !max_module_size.at_most(size as f64) {
-        return false;
-    }
-    let min_share_count = filter.min_share_count;
-    min_share_count.shared_enough(share_count)
+    bitset::word::contains_all(tags, filter.tags)
+        && limit::at_least(filter.min_module_size, size as f64)
+        && limit::at_most(filter.max_module_size, size as f64)
+        && shared_enough(filter.min_share_count, share_count)
 }
 
 // The public call: refuses 6, that size above 2^53, and 8, a limit that is NaN.
@@ -96,19 +52,17 @@ pub fn passes_static_filters(
     tags: u64,
     size: u64,
     share_count: u32,
-) -> Filtered
+) -> Result<bool, Refusal>
     ensures { outcome_of result ≡ filter_call filter tags size share_count }
 {
     if whole::TOTAL_LIMIT < size {
-        return Filtered::Refused(refusal::TOTAL);
+        return Err(Refusal::Total);
     }
-    let min_module_size = filter.min_module_size;
-    if min_module_size.is_nan_limit() {
-        return Filtered::Refused(refusal::NAN);
+    if limit::is_nan_limit(filter.min_module_size) {
+        return Err(Refusal::Nan);
     }
-    let max_module_size = filter.max_module_size;
-    if max_module_size.is_nan_limit() {
-        return Filtered::Refused(refusal::NAN);
+    if limit::is_nan_limit(filter.max_module_size) {
+        return Err(Refusal::Nan);
     }
-    Filtered::Passes(passes_within(filter, tags, size, share_count))
+    Ok(passes_within(filter, tags, size, share_count))
 }

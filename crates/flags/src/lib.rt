@@ -27,10 +27,8 @@ pub fn bad_flags(flags: &[u8], n: usize) -> bool
     ensures { result ≡ bad_flags flags.now n }
 {
     let mut bad = false;
-    let mut m = 0;
-    while m < n {
-        bad = (7 < flags[m]) | bad;
-        m = m + 1;
+    for byte in &flags[..n] {
+        bad |= 7 < *byte;
     }
     bad
 }

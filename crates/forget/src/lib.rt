@@ -25,10 +25,7 @@ pub fn forget_all(first: &[u32], next: &[u32], list: &[u32], followed: &mut [u8]
     ensures { followed.new ≡ unfollowed }
 {
     followed[0] = 0;
-    let mut i = 0;
-    while i < list.len() {
-        let m = list[i] as usize;
-        forget_chain(next, followed, first[m] as usize);
-        i = i + 1;
+    for m in list {
+        forget_chain(next, followed, first[*m as usize] as usize);
     }
 }

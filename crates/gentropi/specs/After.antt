@@ -1,11 +1,8 @@
 -- The places that an exported function writes, before and after a call: a refusal leaves them as they were.
-use Rattle.std.specs.Prelude.{ℕ, Bool, true, false, List, ◌≡◌, Float, length}
+use Rattle.std.specs.Bool.{then_some}
+use Rattle.std.specs.Prelude.{ℕ, Bool, List, ◌≡◌, Float, length}
 use Rattle.refusal.specs.Outcome.{Outcome, refused, accepted, number_of, value_or}
 use Rattle.refusal.specs.Call.{Call}
-use Rattle.limit.specs.declared.Limit.{Limit}
-use Rattle.limit.specs.declared.Limit.TheVariants as limit
-use Rattle.filter.specs.declared.MinShareCount.{MinShareCount}
-use Rattle.filter.specs.declared.MinShareCount.TheVariants as shares
 use Rattle.filter.specs.declared.StaticFilter.{StaticFilter}
 use Rattle.cut.specs.Cut.{Chosen, fewer_than_two, none_allowed, cut}
 use Rattle.capture.specs.Capture as capturing
@@ -41,22 +38,14 @@ cut_after (accepted fewer_than_two) p = without_cut (why_number fewer_than_two) 
 cut_after (accepted none_allowed) p = without_cut (why_number none_allowed) p
 cut_after (accepted (cut i l r)) p = record { why_none = why_number (cut i l r); index = i; left = l; right = r }
 
--- a limit handed over as a bool beside a double, and a least share count as a bool beside a number
-abbrev pub limit_given : Bool → Float → Limit
-limit_given true x = limit.Given x
-limit_given false x = limit.Absent
-
-abbrev pub shares_given : Bool → ℕ → MinShareCount
-shares_given true n = shares.Given n
-shares_given false n = shares.Absent
-
+-- a limit is handed over as a bool beside a double, and a least share count as a bool beside a number
 abbrev pub filter_given : ℕ → Bool → Float → Bool → Float → Bool → ℕ → StaticFilter
 filter_given tags has_min min has-max max has-shares shares =
     record {
       tags = tags;
-      min_module_size = limit_given has_min min;
-      max_module_size = limit_given has-max max;
-      min_share_count = shares_given has-shares shares;
+      min_module_size = then_some has_min min;
+      max_module_size = then_some has-max max;
+      min_share_count = then_some has-shares shares;
     }
 
 -- an exported cut: its answer, and the places after it

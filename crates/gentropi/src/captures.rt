@@ -1,8 +1,8 @@
 // Capture for a host.
 ghost use Rattle.gentropi.specs.After.{CaptureExport};
 
-use capture::CaptureAnswer;
 use index::ModuleIdx;
+use records::Records;
 
 #[unsafe(no_mangle)]
 pub extern "C" fn gentropi_capture(
@@ -34,20 +34,23 @@ pub extern "C" fn gentropi_capture(
       scratch = scratch.new;
     }) }
 {
+    let records = Records {
+        first,
+        dependency,
+        next,
+    };
     let answer = capture::add_module_and_dependencies_to_group_recursively(
         n,
         d,
         recursive,
         ModuleIdx(from),
         flags,
-        first,
-        dependency,
-        next,
+        &records,
         marks,
         scratch,
     );
     match answer {
-        CaptureAnswer::Refused(number) => number,
-        CaptureAnswer::Done => 0,
+        Err(refusal) => refusal.number(),
+        Ok(()) => 0,
     }
 }

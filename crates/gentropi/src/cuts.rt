@@ -3,7 +3,8 @@ ghost use Rattle.std.specs.Prelude.{◌≡◌};
 ghost use Rattle.cut.specs.Call.{cut_call, chosen_of};
 ghost use Rattle.gentropi.specs.After.{why_number, CutExport};
 
-use cut::{Cut, CutAnswer};
+use cut::Cut;
+use ids::parts::Ids;
 
 // What stands for each answer: there is a cut, there are fewer than two modules, or no cut is allowed.
 const FOUND: u8 = 0;
@@ -47,10 +48,11 @@ pub extern "C" fn gentropi_cut(
       right = right.new;
     }) }
 {
-    let answer = cut::pick_relevance_split_index(n, bytes, offsets, sizes, minimum, maximum);
+    let ids = Ids { bytes, offsets };
+    let answer = cut::pick_relevance_split_index(n, &ids, sizes, minimum, maximum);
     match answer {
-        CutAnswer::Refused(number) => number,
-        CutAnswer::Answered(chosen) => {
+        Err(refusal) => refusal.number(),
+        Ok(chosen) => {
             *why_none = why_none_of(chosen);
             let Cut::At(point) = chosen else {
                 return 0;

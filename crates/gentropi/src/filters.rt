@@ -1,28 +1,9 @@
 // Filter for a host: an absent limit is a bool beside a number.
 ghost use Rattle.std.specs.Prelude.{◌≡◌};
 ghost use Rattle.filter.specs.Filter.{filter_call};
-ghost use Rattle.gentropi.specs.After.{limit_given, shares_given, filter_given, FilterExport};
+ghost use Rattle.gentropi.specs.After.{filter_given, FilterExport};
 
-use filter::{Filtered, MinShareCount, StaticFilter};
-use limit::Limit;
-
-fn limit_given(given: bool, limit: f64) -> Limit
-    ensures { result ≡ limit_given given limit }
-{
-    if given {
-        return Limit::Given(limit);
-    }
-    Limit::Absent
-}
-
-fn shares_given(given: bool, minimum: u32) -> MinShareCount
-    ensures { result ≡ shares_given given minimum }
-{
-    if given {
-        return MinShareCount::Given(minimum);
-    }
-    MinShareCount::Absent
-}
+use filter::StaticFilter;
 
 #[unsafe(no_mangle)]
 pub extern "C" fn gentropi_filter(
@@ -44,14 +25,14 @@ pub extern "C" fn gentropi_filter(
 {
     let filter = StaticFilter {
         tags: mask,
-        min_module_size: limit_given(has_min, min_module_size),
-        max_module_size: limit_given(has_max, max_module_size),
-        min_share_count: shares_given(has_shares, min_share_count),
+        min_module_size: has_min.then_some(min_module_size),
+        max_module_size: has_max.then_some(max_module_size),
+        min_share_count: has_shares.then_some(min_share_count),
     };
     let answer = filter::passes_static_filters(filter, tags, size, share_count);
     match answer {
-        Filtered::Refused(number) => number,
-        Filtered::Passes(value) => {
+        Err(refusal) => refusal.number(),
+        Ok(value) => {
             *passes = value;
             0
         }

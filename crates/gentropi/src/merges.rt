@@ -1,8 +1,6 @@
 // Merge for a host.
 ghost use Rattle.gentropi.specs.After.{MergeExport};
 
-use merge::MergeAnswer;
-
 #[unsafe(no_mangle)]
 pub extern "C" fn gentropi_merge(
     k: usize,
@@ -41,7 +39,7 @@ pub extern "C" fn gentropi_merge(
         final_bits,
     );
     match answer {
-        MergeAnswer::Refused(number) => number,
-        MergeAnswer::Done => 0,
+        Err(refusal) => refusal.number(),
+        Ok(()) => 0,
     }
 }

@@ -3,7 +3,6 @@ ghost use Rattle.std.specs.Prelude.{[], ◌∷◌};
 ghost use Rattle.gentropi.specs.After.{NameExport};
 
 use bitset::entries::BitSet;
-use chunk_names::NameAnswer;
 
 #[unsafe(no_mangle)]
 pub extern "C" fn gentropi_name(
@@ -55,8 +54,8 @@ pub extern "C" fn gentropi_name(
         name,
     );
     match answer {
-        NameAnswer::Refused(refused) => refused,
-        NameAnswer::Named(written) => {
+        Err(refusal) => refusal.number(),
+        Ok(written) => {
             *length = written;
             0
         }

@@ -2,7 +2,10 @@
 ghost use Rattle.options.specs.Tables.{options_by};
 ghost use Rattle.gentropi.specs.After.{ChunksExport};
 
-use chunks::ChunksAnswer;
+use emitting::ChunkAreas;
+use ids::parts::Ids;
+use options::tables::Groups;
+use records::Records;
 
 #[unsafe(no_mangle)]
 pub extern "C" fn gentropi_chunks(
@@ -117,48 +120,38 @@ pub extern "C" fn gentropi_chunks(
         max_module_size,
         min_share_count,
     );
-    let answer = chunks::split(
-        n,
-        g,
-        e,
-        k,
-        d,
-        flags,
-        sizes,
-        orders,
-        shares,
-        tags,
-        bits,
-        bytes,
-        offsets,
+    let ids = Ids { bytes, offsets };
+    let records = Records {
         first,
         dependency,
         next,
-        options,
-        group_given,
-        group_min_size,
-        group_max_size,
-        group_min_module_size,
-        group_max_module_size,
-        group_min_share_count,
-        group_tags,
-        group_priority,
-        group_threshold,
-        answers,
-        on_entry,
+    };
+    let groups = Groups {
+        given: group_given,
+        min_size: group_min_size,
+        max_size: group_max_size,
+        min_module_size: group_min_module_size,
+        max_module_size: group_max_module_size,
+        min_share_count: group_min_share_count,
+        tags: group_tags,
+        priority: group_priority,
+        threshold: group_threshold,
+    };
+    let mut areas = ChunkAreas {
         chunk_of,
-        next_of,
-        first_of,
         group_of,
         name_of,
         size_of,
         bits_of,
         mark_of,
-        scratch,
+    };
+    let answer = chunks::split(
+        n, g, e, k, d, flags, sizes, orders, shares, tags, bits, &ids, &records, options, &groups,
+        answers, on_entry, &mut areas, next_of, first_of, scratch,
     );
     match answer {
-        ChunksAnswer::Refused(number) => number,
-        ChunksAnswer::Made(made) => {
+        Err(refusal) => refusal.number(),
+        Ok(made) => {
             *count = made;
             0
         }

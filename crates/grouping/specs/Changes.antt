@@ -1,6 +1,5 @@
 -- What is handed to a call with one thing changed. Counts and tables are named by numbers, so that a list can range over them.
-use Rattle.std.specs.Prelude.{ℕ, List, Float}
-use Rattle.limit.specs.declared.Limit.{Limit}
+use Rattle.std.specs.Prelude.{ℕ, List, Float, Option}
 use Rattle.options.specs.Tables.{GroupTables}
 use Rattle.grouping.specs.Given.{Shared, Given, Areas}
 
@@ -71,7 +70,7 @@ pub record Changes : Type 0 where
   pub count : ℕ → ℕ → ℕ
   pub numbers : ℕ → List ℕ → List ℕ
   pub doubles : ℕ → List Float → List Float
-  pub limit : ℕ → Limit → Limit
+  pub limit : ℕ → Option Float → Option Float
 
 unfoldable pub shared_with : Changes → Shared → Shared
 shared_with c s =

@@ -1,8 +1,7 @@
 -- Changes of a count, of a table, or of two such things.
-use Rattle.std.specs.Prelude.{ℕ, ◌-◌, cond, List, [], ◌∷◌, ◌++◌, eqb, Float, length, take, set, replicate}
+use Rattle.std.specs.Prelude.{ℕ, ◌-◌, cond, List, [], ◌∷◌, ◌++◌, eqb, Float, length, take, set, replicate, Some}
 use Rattle.std.specs.Float.{nan}
 use Rattle.whole.specs.Double.{to_f64}
-use Rattle.limit.specs.declared.Limit.TheVariants as limit
 use Rattle.grouping.specs.Changes.{Handed, Changes, changed}
 
 abbrev pub Damage : Type 0
@@ -57,4 +56,4 @@ abbrev pub nan_at : ℕ → ℕ → Damage
 nan_at chosen i = change_doubles chosen (λ l. set l i nan)
 
 abbrev pub nan_limit : ℕ → Damage
-nan_limit chosen = changed (record { count = same; numbers = same; doubles = same; limit = only chosen (λ l. limit.Given nan) })
+nan_limit chosen = changed (record { count = same; numbers = same; doubles = same; limit = only chosen (λ l. Some nan) })

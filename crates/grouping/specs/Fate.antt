@@ -1,11 +1,9 @@
 -- Step 4: what becomes of an item that is taken off the work list. A cut's pieces are items and meet the same fate.
-use Rattle.std.specs.Prelude.{ℕ, Bool, true, false, List, [], ◌∷◌, map, Float, take, drop}
+use Rattle.std.specs.Prelude.{ℕ, Bool, true, false, List, [], ◌∷◌, map, Float, take, drop, Option, None, Some}
 use Rattle.std.specs.Float.Ieee.{lt}
 use Rattle.lists.specs.Elem.{elem}
 use Rattle.lists.specs.Keep.{keep}
 use Rattle.lists.specs.Sort.{sort_by}
-use Rattle.limit.specs.declared.Limit.{Limit}
-use Rattle.limit.specs.declared.Limit.TheVariants.{Absent, Given}
 use Rattle.ids.specs.Order.{before}
 use Rattle.cut.specs.Cut.{Chosen, fewer_than_two, none_allowed, cut, cut_of}
 use Rattle.options.specs.declared.Settings.{Settings}
@@ -45,9 +43,9 @@ abbrev pub cut_if : Bool → Settings → Tree → Float → List ℕ → Fate
 cut_if true r tree maximum places = cut_fate r tree maximum places
 cut_if false r tree maximum places = emitted
 
-abbrev pub limited_to : Limit → Settings → Tree → List ℕ → Fate
-limited_to Absent r tree places = emitted
-limited_to (Given maximum) r tree places = cut_if (lt maximum (item_size r tree places)) r tree maximum places
+abbrev pub limited_to : Option Float → Settings → Tree → List ℕ → Fate
+limited_to None r tree places = emitted
+limited_to (Some maximum) r tree places = cut_if (lt maximum (item_size r tree places)) r tree maximum places
 
 -- "One strictly below min_size is dropped"
 abbrev pub unless : Bool → Settings → Tree → List ℕ → Fate

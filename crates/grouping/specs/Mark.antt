@@ -1,8 +1,6 @@
 -- The mark of a chunk says why it is too large. It follows from the chunk's own places and the limits in force for its group, not from its item.
-use Rattle.std.specs.Prelude.{ℕ, cond, List, [], ◌∷◌, map, ltb, length}
+use Rattle.std.specs.Prelude.{ℕ, cond, List, [], ◌∷◌, map, ltb, Float, length, Option, None, Some}
 use Rattle.std.specs.Float.Ieee.{lt}
-use Rattle.limit.specs.declared.Limit.{Limit}
-use Rattle.limit.specs.declared.Limit.TheVariants.{Absent, Given}
 use Rattle.cut.specs.Cut.{allowed_cuts}
 use Rattle.cut.specs.declared.candidate.Candidate.{Candidate}
 use Rattle.options.specs.declared.Settings.{Settings}
@@ -23,9 +21,9 @@ why_above count [] = cond (ltb count 2) 1 2
 why_above count (c ∷ cuts) = 3
 
 -- "0 within its maximum or without one"
-abbrev pub mark_under : Limit → Settings → Tree → List ℕ → ℕ
-mark_under Absent r tree places = 0
-mark_under (Given maximum) r tree places = cond (lt maximum (item_size r tree places)) (why_above (length places) (cuts_allowed r tree places)) 0
+abbrev pub mark_under : Option Float → Settings → Tree → List ℕ → ℕ
+mark_under None r tree places = 0
+mark_under (Some maximum) r tree places = cond (lt maximum (item_size r tree places)) (why_above (length places) (cuts_allowed r tree places)) 0
 
 -- the "mark" of a chunk of these places, under the maximum in force for its group
 unfoldable pub mark_of : Settings → Tree → List ℕ → ℕ

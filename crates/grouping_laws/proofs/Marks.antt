@@ -9,8 +9,7 @@ use native.Mathlib.Omega.{arith}
 use lib.Dec.{ltb}
 use lib.Ieee.{Float, lt}
 use lib.ListN.{length}
-use Rattle.limit.specs.declared.Limit.{Limit}
-use Rattle.limit.specs.declared.Limit.TheVariants.{Absent, Given}
+use Rattle.std.specs.Prelude.{Option, None, Some}
 use Rattle.cut.specs.Cut.{allowed_cuts, pick, cut_of}
 use Rattle.cut.specs.declared.candidate.Candidate.{Candidate}
 use Rattle.options.specs.declared.Settings.{Settings}
@@ -53,9 +52,9 @@ module _ (r : Settings) (tree : Tree) where
       let ids = map (λ p. (member_at tree p).id) ordered in
       of_cuts (length ids) (length places) maximum (allowed_cuts ids (sizes_at r tree ordered) r.min_size) places ordered e
 
-  limit_mark : (limit : Limit) (places : List ℕ) → limited_to limit r tree places ≡ emitted → mark_under limit r tree places ≤ 2
-  limit_mark Absent places e = omega arith
-  limit_mark (Given maximum) places e = go (lt maximum (item_size r tree places)) e
+  limit_mark : (limit : Option Float) (places : List ℕ) → limited_to limit r tree places ≡ emitted → mark_under limit r tree places ≤ 2
+  limit_mark None places e = omega arith
+  limit_mark (Some maximum) places e = go (lt maximum (item_size r tree places)) e
     where
       go : (t : Bool) → cut_if t r tree maximum places ≡ emitted → cond t (why_above (length places) (cuts_allowed r tree places)) 0 ≤ 2
       go true f = cut_mark maximum places f
@@ -72,12 +71,12 @@ module _ (r : Settings) (tree : Tree) where
 
   -- ---- a mark of 0
 
-  pub zero_within : (maximum : Float) → r.max_size ≡ Given maximum → (places : List ℕ) → mark_of r tree places ≡ 0
+  pub zero_within : (maximum : Float) → r.max_size ≡ Some maximum → (places : List ℕ) → mark_of r tree places ≡ 0
       → lt maximum (item_size r tree places) ≡ false
   unfolding mark_of
   zero_within maximum limit places e =
       above (lt maximum (item_size r tree places)) (length places) (cuts_allowed r tree places)
-      (sym (ap (λ (l : Limit). mark_under l r tree places) limit) ∙ e)
+      (sym (ap (λ (l : Option Float). mark_under l r tree places) limit) ∙ e)
 
 -- ---- the chunks
 

@@ -9,6 +9,7 @@ use mathlib.Core.Path.{◌≡◌, refl, sym, ◌∙◌, subst}
 use native.Mathlib.Omega.{arith}
 use lib.Ieee.{Float, lt}
 use lib.ListN.{length, get_or, take, drop, take-append-drop, length-take, length-drop, length-map}
+use Rattle.std.specs.Prelude.{Option, None, Some}
 use Rattle.lists.specs.Elem.{elem}
 use Rattle.lists.proofs.Distinct.{Distinct}
 use Rattle.lists.proofs.Elem.{elem_mem, mem_elem}
@@ -18,8 +19,6 @@ use Rattle.lists.proofs.Pairs.{pairs_keep, pairs_across}
 use Rattle.lists.proofs.Position.{get_or_mem}
 use Rattle.lists.proofs.Rearranged.{sort_perm, perm_pairs}
 use Rattle.lists.proofs.Sort.{Pairs, pairs_weaker, sort_mem, mem_sort}
-use Rattle.limit.specs.declared.Limit.{Limit}
-use Rattle.limit.specs.declared.Limit.TheVariants.{Absent, Given}
 use Rattle.ids.specs.Order.{before}
 use Rattle.cut.specs.Cut.{Chosen, fewer_than_two, none_allowed, cut, cut_of}
 use Rattle.cut.proofs.Answer.{there_is_a_cut}
@@ -148,9 +147,9 @@ module _ (tree : Tree) (places : List ℕ) (ascend : Ascending places) (some : 1
           let a = there_is_a_cut ids sizes r.min_size maximum i left right e in
           pieces places ordered ascend order_distinct order_there order_back i a.from_one (rw (length-map ordered (λ p. (member_at tree p).id)) at a.inside)
 
-  limit_holds : (maximum : Limit) (r : Settings) → OfFate places (limited_to maximum r tree places)
-  limit_holds Absent r = some
-  limit_holds (Given maximum) r = go (lt maximum (item_size r tree places))
+  limit_holds : (maximum : Option Float) (r : Settings) → OfFate places (limited_to maximum r tree places)
+  limit_holds None r = some
+  limit_holds (Some maximum) r = go (lt maximum (item_size r tree places))
     where
       go : (b : Bool) → OfFate places (cut_if b r tree maximum places)
       go true = cut_holds r maximum

@@ -4,12 +4,15 @@ ghost use Rattle.forget.specs.Unfollowed.{unfollowed};
 ghost use Rattle.closed.specs.Closed.{Closed};
 ghost use Rattle.names.specs.Turn.{NamesRoom};
 ghost use Rattle.groups.specs.Turn.{GroupTurning, GroupTurned, GroupsTurning, GroupsTurned};
+ghost use Rattle.emitting.specs.Emitted.{work, SameAreas};
 
+use emitting::ChunkAreas;
+use ids::parts::Ids;
 use index::ChunkIdx;
-use lists::copy::copy_bytes;
 use matching::matched::match_group;
 use names::convert_names;
 use options::Settings;
+use records::Records;
 use sets::gathered::store_places;
 
 // One group turned into chunks. Its matched modules are written to `matched`.
@@ -23,11 +26,8 @@ fn convert_group(
     shares: &[u32],
     tags: &[u64],
     bits: &[u64],
-    bytes: &[u8],
-    offsets: &[u32],
-    first: &[u32],
-    dependency: &[u32],
-    next: &[u32],
+    ids: &Ids,
+    records: &Records,
     order: &[u32],
     place: &[u32],
     rank: &[u32],
@@ -39,61 +39,36 @@ fn convert_group(
     set: &mut [u32],
     matched: &mut [u32],
     scratch: &mut [u32],
-    chunk_of: &mut [u32],
-    group_of: &mut [u32],
-    name_of: &mut [u32],
-    size_of: &mut [f64],
-    bits_of: &mut [u64],
-    mark_of: &mut [u8],
+    areas: &mut ChunkAreas,
 ) -> usize
-    requires group_turning { GroupTurning (record { bytes = bytes.now; offsets = offsets.now; sizes = sizes.now; rank = rank.now })
-        (record { flags = flags.now; first = first.now; dependency = dependency.now; next = next.now; order = order.now }) bits.now
+    requires group_turning { GroupTurning (record { bytes = ids.now.bytes.now; offsets = ids.now.offsets.now; sizes = sizes.now; rank = rank.now })
+        (record { flags = flags.now; first = records.now.first.now; dependency = records.now.dependency.now; next = records.now.next.now; order = order.now }) bits.now
         settings group (record { answers = answers.now; tags = tags.now; shares = shares.now }) number.0 at
-        (record {
-          chunk_of = chunk_of.old;
-          group_of = group_of.old;
-          name_of = name_of.old;
-          size_of = size_of.old;
-          bits_of = bits_of.old;
-          mark_of = mark_of.old;
-        }) }
+        (work areas.old) }
     requires names_room { NamesRoom n flags.now order.now place.now marks.old followed.old set.old scratch.old
         × (length order.now ≤ length matched.old)
-        × Closed flags.now first.now dependency.now next.now closed.old chunk_of.old }
+        × Closed flags.now records.now.first.now records.now.dependency.now records.now.next.now closed.old areas.old.chunk_of.now }
     ensures group_turned { GroupTurned (record {
-      bytes = bytes.now;
-      offsets = offsets.now;
+      bytes = ids.now.bytes.now;
+      offsets = ids.now.offsets.now;
       sizes = sizes.now;
       rank = rank.now;
     })
         (record {
           flags = flags.now;
-          first = first.now;
-          dependency = dependency.now;
-          next = next.now;
+          first = records.now.first.now;
+          dependency = records.now.dependency.now;
+          next = records.now.next.now;
           order = order.now;
         }) bits.now
         settings group (record { answers = answers.now; tags = tags.now; shares = shares.now }) number.0 at result
-        (record {
-          chunk_of = chunk_of.old;
-          group_of = group_of.old;
-          name_of = name_of.old;
-          size_of = size_of.old;
-          bits_of = bits_of.old;
-          mark_of = mark_of.old;
-        })
-        (record {
-          chunk_of = chunk_of.new;
-          group_of = group_of.new;
-          name_of = name_of.new;
-          size_of = size_of.new;
-          bits_of = bits_of.new;
-          mark_of = mark_of.new;
-        }) }
+        (work areas.old)
+        (work areas.new) }
     ensures marks_len_unchanged { (length marks.new ≡ length marks.old) × (length set.new ≡ length set.old)
         × (length matched.new ≡ length matched.old)
         × (length scratch.new ≡ length scratch.old) × (followed.new ≡ unfollowed)
-        × Closed flags.now first.now dependency.now next.now closed.new chunk_of.new }
+        × Closed flags.now records.now.first.now records.now.dependency.now records.now.next.now closed.new areas.new.chunk_of.now }
+    ensures same { SameAreas areas.old areas.new }
 {
     let filter = settings.filter;
     let count = match_group(filter, answers, tags, sizes, shares, order, matched);
@@ -103,15 +78,12 @@ fn convert_group(
         &matched[..count],
         n,
         flags,
-        first,
-        dependency,
-        next,
+        records,
         order,
         place,
         sizes,
         bits,
-        bytes,
-        offsets,
+        ids,
         rank,
         number,
         at,
@@ -120,12 +92,7 @@ fn convert_group(
         followed,
         set,
         scratch,
-        chunk_of,
-        group_of,
-        name_of,
-        size_of,
-        bits_of,
-        mark_of,
+        areas,
     )
 }
 
@@ -140,46 +107,31 @@ pub fn convert_groups_to_chunks(
     shares: &[u32],
     tags: &[u64],
     bits: &[u64],
-    bytes: &[u8],
-    offsets: &[u32],
-    first: &[u32],
-    dependency: &[u32],
-    next: &[u32],
+    ids: &Ids,
+    records: &Records,
     order: &[u32],
     rank: &[u32],
     number: ChunkIdx,
     at: usize,
     scratch: &mut [u32],
-    chunk_of: &mut [u32],
-    group_of: &mut [u32],
-    name_of: &mut [u32],
-    size_of: &mut [f64],
-    bits_of: &mut [u64],
-    mark_of: &mut [u8],
+    areas: &mut ChunkAreas,
 ) -> usize
-    requires groups_turning { GroupsTurning (record { bytes = bytes.now; offsets = offsets.now; sizes = sizes.now; rank = rank.now })
-        (record { flags = flags.now; first = first.now; dependency = dependency.now; next = next.now; order = order.now }) bits.now
+    requires groups_turning { GroupsTurning (record { bytes = ids.now.bytes.now; offsets = ids.now.offsets.now; sizes = sizes.now; rank = rank.now })
+        (record { flags = flags.now; first = records.now.first.now; dependency = records.now.dependency.now; next = records.now.next.now; order = order.now }) bits.now
         settings turns.now (record { answers = answers.now; tags = tags.now; shares = shares.now }) n number.0 at
-        (record {
-          chunk_of = chunk_of.old;
-          group_of = group_of.old;
-          name_of = name_of.old;
-          size_of = size_of.old;
-          bits_of = bits_of.old;
-          mark_of = mark_of.old;
-        }) }
+        (work areas.old) }
     requires n_in_bounds { 3 * n ≤ length scratch.old }
     ensures groups_turned { GroupsTurned (record {
-      bytes = bytes.now;
-      offsets = offsets.now;
+      bytes = ids.now.bytes.now;
+      offsets = ids.now.offsets.now;
       sizes = sizes.now;
       rank = rank.now;
     })
         (record {
           flags = flags.now;
-          first = first.now;
-          dependency = dependency.now;
-          next = next.now;
+          first = records.now.first.now;
+          dependency = records.now.dependency.now;
+          next = records.now.next.now;
           order = order.now;
         }) bits.now
         settings turns.now (record {
@@ -187,74 +139,52 @@ pub fn convert_groups_to_chunks(
           tags = tags.now;
           shares = shares.now;
         }) n number.0 at result
-        (record {
-          chunk_of = chunk_of.old;
-          group_of = group_of.old;
-          name_of = name_of.old;
-          size_of = size_of.old;
-          bits_of = bits_of.old;
-          mark_of = mark_of.old;
-        })
-        (record {
-          chunk_of = chunk_of.new;
-          group_of = group_of.new;
-          name_of = name_of.new;
-          size_of = size_of.new;
-          bits_of = bits_of.new;
-          mark_of = mark_of.new;
-        }) }
+        (work areas.old)
+        (work areas.new) }
     ensures scratch_len_unchanged { length scratch.new ≡ length scratch.old }
+    ensures same { SameAreas areas.old areas.new }
 {
     let mut place = [0u32; 4096];
     store_places(order, &mut place);
     let mut closed = [0u8; 4096];
-    copy_bytes(flags, &mut closed[..n]);
+    closed[..n].copy_from_slice(flags);
     let mut marks = [0u8; 4096];
     let mut followed = [0u8; 65536];
     let mut set = [0u32; 4096];
     let mut matched = [0u32; 4096];
     let mut made = 0;
-    let mut i = 0;
-    while i < turns.len() {
-        let g = turns[i] as usize;
+    for turn in turns {
+        let g = *turn as usize;
         let from = g * n;
         let to = from + n;
         let own = settings[g];
-        made = made
-            + convert_group(
-                own,
-                turns[i],
-                &answers[from..to],
-                n,
-                flags,
-                sizes,
-                shares,
-                tags,
-                bits,
-                bytes,
-                offsets,
-                first,
-                dependency,
-                next,
-                order,
-                &place,
-                rank,
-                ChunkIdx(number.0 + made as u32),
-                at + made,
-                &mut closed[..n],
-                &mut marks[..n],
-                &mut followed,
-                &mut set,
-                &mut matched,
-                scratch,
-                chunk_of,
-                group_of,
-                name_of,
-                size_of,
-                bits_of,
-                mark_of,
-            );
-        i = i + 1;
+        // The places of records are below this, so that they can be counted on.
+        let _room = areas.room();
+        made += convert_group(
+            own,
+            *turn,
+            &answers[from..to],
+            n,
+            flags,
+            sizes,
+            shares,
+            tags,
+            bits,
+            ids,
+            records,
+            order,
+            &place,
+            rank,
+            ChunkIdx(number.0 + made as u32),
+            at + made,
+            &mut closed[..n],
+            &mut marks[..n],
+            &mut followed,
+            &mut set,
+            &mut matched,
+            scratch,
+            areas,
+        );
     }
     made
 }

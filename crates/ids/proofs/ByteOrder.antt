@@ -7,6 +7,11 @@ use mathlib.Core.Path.{◌≡◌, refl, sym, ap₂, ◌∙◌}
 use native.Mathlib.Numerals.{add-one}
 use native.Mathlib.Omega.{arith}
 use borrow.Author.Tests.{lt-ltb, le-ltb, eq-eqb, ne_eqb, ltb-true, ltb-false}
+use Rattle.std.proofs.lemmas.Grind.{common_steps}
+use Rattle.std.proofs.lemmas.Bool.Decides.{nat_tests}
+use Rattle.std.proofs.Common.{Some}
+use Rattle.std.specs.Ordering.{nat_cmp, partial_lt}
+use Rattle.std.specs.Cmp.Lexicographic.{slice_partial_cmp}
 use lib.Dec.{ltb}
 use lib.ListN.{length, get_or, drop, drop_of_length-le}
 use lib.Seq.{drop-cons}
@@ -109,30 +114,11 @@ pub record StrictTotalOrder (A : Type 0) (lower : A → A → Bool) : Type 0 whe
 pub byte_order : StrictTotalOrder (List ℕ) before
 byte_order = record { irrefl = before_irrefl; trans = before_trans; asym = before_asym; total = before_total }
 
--- ---- two ids from byte i on, as a loop over both meets them
+-- ---- what the comparison of two slices answers
 
-module _ (l r : List ℕ) (i : ℕ) where
-  from_heads : i < length l → i < length r
-      → before (drop i l) (drop i r) ≡ before (get_or l i 0 ∷ drop (i + 1) l) (get_or r i 0 ∷ drop (i + 1) r)
-  from_heads p q = rw (add-one, drop-cons l i 0 p, drop-cons r i 0 q)
-
-  pub from_below : i < length l → i < length r → get_or l i 0 < get_or r i 0 → before (drop i l) (drop i r) ≡ true
-  from_below p q h = from_heads p q ∙ head_below _ _ _ _ h
-
-  pub from_above : i < length l → i < length r → get_or r i 0 < get_or l i 0 → before (drop i l) (drop i r) ≡ false
-  from_above p q h = from_heads p q ∙ head_above _ _ _ _ h
-
-  pub from_same : i < length l → i < length r → get_or l i 0 ≡ get_or r i 0 → before (drop i l) (drop i r) ≡ before (drop (i + 1) l) (drop (i + 1) r)
-  from_same p q e = from_heads p q ∙ head_same _ _ _ _ e
-
-  pub from_right_done : i < length l → length r ≤ i → before (drop i l) (drop i r) ≡ false
-  unfolding before
-  from_right_done p q = rw (drop-cons l i 0 p, drop_of_length-le r q)
-
-  pub from_left_done : length l ≤ i → before (drop i l) (drop i r) ≡ ltb i (length r)
-  unfolding before
-  from_left_done p = go (ltb i (length r)) refl
-    where
-      go : (t : Bool) → ltb i (length r) ≡ t → before (drop i l) (drop i r) ≡ t
-      go true e = let q : i < length r = ltb-true _ _ e in rw (drop_of_length-le l p, drop-cons r i 0 q)
-      go false e = let q : length r ≤ i = ltb-false _ _ e in rw (drop_of_length-le l p, drop_of_length-le r q)
+pub compared : (l r : List ℕ) → partial_lt (slice_partial_cmp (λ x y. Some (nat_cmp x y))) l r ≡ before l r
+unfolding before
+compared [] [] = refl
+compared [] (b ∷ r) = refl
+compared (a ∷ l) [] = refl
+compared (a ∷ l) (b ∷ r) = grind (arith, common_steps, nat_tests, compared l r)

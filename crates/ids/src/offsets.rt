@@ -16,15 +16,13 @@ pub fn id_too_long(id: &[u8]) -> bool
 pub fn bad_offsets(longest: usize, end: usize, offsets: &[u32]) -> bool
     ensures { result ≡ bad_offsets longest end offsets.now }
 {
-    let mut k = 0;
-    while k < offsets.len() {
-        let a = offsets[k] as usize;
+    for (k, offset) in offsets.iter().enumerate() {
+        let a = *offset as usize;
         if end < a {
             return true;
         }
-        k = k + 1;
-        if k < offsets.len() {
-            if bad_pair(longest, a, offsets[k] as usize) {
+        if let Some(next) = offsets.get(k + 1) {
+            if bad_pair(longest, a, *next as usize) {
                 return true;
             }
         }
@@ -36,8 +34,5 @@ pub fn bad_offsets(longest: usize, end: usize, offsets: &[u32]) -> bool
 fn bad_pair(longest: usize, a: usize, b: usize) -> bool
     ensures { result ≡ (ltb b a || ltb longest (b - a)) }
 {
-    if b < a {
-        return true;
-    }
-    longest < b - a
+    b < a || longest < b - a
 }

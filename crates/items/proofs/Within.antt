@@ -7,7 +7,7 @@ use native.Mathlib.Nat.{add-zero}
 use native.Mathlib.Omega.{arith}
 use lib.Ieee.{Float}
 use lib.ListN.{length}
-use Rattle.limit.specs.declared.Limit.{Limit}
+use Rattle.std.specs.Prelude.{Option}
 use Rattle.whole.specs.Double.{sum_f64}
 use Rattle.cut.specs.Order.{sizes_in}
 use Rattle.emitting.specs.Emitted.{Work, Emission, with_chunk, with_chunks, Room}
@@ -38,10 +38,10 @@ module _ (t : Tables) (modules : List ℕ) {total : Float} (total-is : total ≡
       }
 
   -- by the maximum that the total is above, if it is
-  pub emitted_by_lem : (maximum : Limit) (head : Head) (minimum : Float) {over : Limit} → over_limit maximum total ≡ over
+  pub emitted_by_lem : (maximum : Option Float) (head : Head) (minimum : Float) {over : Option Float} → over_limit maximum total ≡ over
       → emitted_within maximum t head minimum modules ≡ emitted_over over t head minimum modules
   emitted_by_lem maximum head minimum e =
-      ap (λ (l : Limit). emitted_over l t head minimum modules) (sym (ap (over_limit maximum) total-is) ∙ e)
+      ap (λ (l : Option Float). emitted_over l t head minimum modules) (sym (ap (over_limit maximum) total-is) ∙ e)
 
 -- a head that is made anew of what it has
 abbrev pub anew_head : Head → Bool → Head

@@ -1,9 +1,8 @@
 -- What becomes of an item on its turn, as the tables say it: the chunks that the modules that no chunk has taken are emitted as.
-use Rattle.std.specs.Prelude.{ℕ, ◌+◌, ◌^◌, ◌≤◌, ◌<◌, Bool, true, false, List, [], ◌∷◌, ◌≡◌, Float, length}
+use Rattle.std.specs.Prelude.{ℕ, ◌+◌, ◌^◌, ◌≤◌, ◌<◌, Bool, true, false, List, [], ◌∷◌, ◌≡◌, Float, length, Option, None, Some}
+use Rattle.std.specs.Bool.{then_some}
 use Rattle.std.specs.Float.Ieee.{lt}
 use Rattle.whole.specs.Double.{sum_f64}
-use Rattle.limit.specs.declared.Limit.{Limit}
-use Rattle.limit.specs.declared.Limit.TheVariants.{Absent, Given}
 use Rattle.cut.specs.Order.{sizes_in, Cuttable}
 use Rattle.settling.specs.Pieces.{pieces_of}
 use Rattle.oversized.specs.InOrder.{by_rank, Ranked}
@@ -25,20 +24,16 @@ unfolding pieces_of by_rank sum_f64
 in_pieces t head minimum maximum modules = chunks_of t.bytes t.offsets t.sizes head minimum maximum (by_rank t.rank modules)
 
 -- the maximum, where a size is strictly above it
-abbrev pub over_if : Bool → Float → Limit
-over_if true maximum = Given maximum
-over_if false maximum = Absent
-
-abbrev pub over_limit : Limit → Float → Limit
-over_limit Absent size = Absent
-over_limit (Given maximum) size = over_if (lt maximum size) maximum
+abbrev pub over_limit : Option Float → Float → Option Float
+over_limit None size = None
+over_limit (Some maximum) size = then_some (lt maximum size) maximum
 
 -- "One strictly above max_size is … cut by these two limits if it can be"
-abbrev pub emitted_over : Limit → Tables → Head → Float → List ℕ → List Emission
-emitted_over Absent t head minimum modules = chunk_of t.sizes head 0 modules ∷ []
-emitted_over (Given maximum) t head minimum modules = in_pieces t head minimum maximum modules
+abbrev pub emitted_over : Option Float → Tables → Head → Float → List ℕ → List Emission
+emitted_over None t head minimum modules = chunk_of t.sizes head 0 modules ∷ []
+emitted_over (Some maximum) t head minimum modules = in_pieces t head minimum maximum modules
 
-abbrev pub emitted_within : Limit → Tables → Head → Float → List ℕ → List Emission
+abbrev pub emitted_within : Option Float → Tables → Head → Float → List ℕ → List Emission
 emitted_within maximum t head minimum modules = emitted_over (over_limit maximum (sum_f64 (sizes_in t.sizes modules))) t head minimum modules
 
 -- "One strictly below min_size is dropped"

@@ -3,12 +3,14 @@ ghost use Rattle.std.specs.Prelude.{◌≡◌, length};
 ghost use Rattle.left.specs.Untaken.{untaken, Listed};
 ghost use Rattle.pieces.specs.Chunks.{Converted};
 ghost use Rattle.items.specs.Turn.{in_pieces, over_limit, emitted_within, emitted_from, ItemReady, Totalled};
+ghost use Rattle.emitting.specs.Emitted.{work, SameAreas};
 
 use cut::sizes::total_size;
+use emitting::ChunkAreas;
 use emitting::emit::{Head, emit_chunk};
+use ids::parts::Ids;
 use index::ChunkIdx;
 use left::keep_left;
-use limit::Limit;
 use oversized::marks::WITHIN;
 use oversized::order::in_id_order;
 use pieces::emit_oversized;
@@ -17,20 +19,14 @@ use pieces::emit_oversized;
 #[derive(Clone, Copy)]
 pub struct Limits {
     pub minimum: f64,
-    pub maximum: Limit,
+    pub maximum: Option<f64>,
 }
 
 // The maximum, if the size is strictly above it.
-fn over_limit(maximum: Limit, size: f64) -> Limit
+fn over_limit(maximum: Option<f64>, size: f64) -> Option<f64>
     ensures { result ≡ over_limit maximum size }
 {
-    let Limit::Given(limit) = maximum else {
-        return Limit::Absent;
-    };
-    if limit < size {
-        return Limit::Given(limit);
-    }
-    Limit::Absent
+    maximum.filter(|limit| *limit < size)
 }
 
 // Puts modules above the maximum in id order, and emits them in pieces.
@@ -41,58 +37,31 @@ fn emit_over_maximum(
     maximum: f64,
     sizes: &[u64],
     bits: &[u64],
-    bytes: &[u8],
-    offsets: &[u32],
+    ids: &Ids,
     rank: &[u32],
     number: ChunkIdx,
     at: usize,
     members: &mut [u32],
-    chunk_of: &mut [u32],
-    group_of: &mut [u32],
-    name_of: &mut [u32],
-    size_of: &mut [f64],
-    bits_of: &mut [u64],
-    mark_of: &mut [u8],
+    areas: &mut ChunkAreas,
 ) -> usize
     requires item_ready { ItemReady (record {
-      bytes = bytes.now;
-      offsets = offsets.now;
+      bytes = ids.now.bytes.now;
+      offsets = ids.now.offsets.now;
       sizes = sizes.now;
       rank = rank.now;
-    }) bits.now members.old (record {
-      chunk_of = chunk_of.old;
-      group_of = group_of.old;
-      name_of = name_of.old;
-      size_of = size_of.old;
-      bits_of = bits_of.old;
-      mark_of = mark_of.old;
-    }) number.0 at }
+    }) bits.now members.old (work areas.old) number.0 at }
     requires totalled { Totalled sizes.now members.old total }
-    ensures { Converted (in_pieces (record {
-      bytes = bytes.now;
-      offsets = offsets.now;
+    ensures emitted { Converted (in_pieces (record {
+      bytes = ids.now.bytes.now;
+      offsets = ids.now.offsets.now;
       sizes = sizes.now;
       rank = rank.now;
-    }) head minimum maximum members.old) bits.now number.0 at result (record {
-      chunk_of = chunk_of.old;
-      group_of = group_of.old;
-      name_of = name_of.old;
-      size_of = size_of.old;
-      bits_of = bits_of.old;
-      mark_of = mark_of.old;
-    }) (record {
-      chunk_of = chunk_of.new;
-      group_of = group_of.new;
-      name_of = name_of.new;
-      size_of = size_of.new;
-      bits_of = bits_of.new;
-      mark_of = mark_of.new;
-    }) }
+    }) head minimum maximum members.old) bits.now number.0 at result (work areas.old) (work areas.new) }
+    ensures same { SameAreas areas.old areas.new }
 {
     in_id_order(rank, members);
     emit_oversized(
-        head, total, minimum, maximum, sizes, bits, bytes, offsets, members, number, at, chunk_of,
-        group_of, name_of, size_of, bits_of, mark_of,
+        head, total, minimum, maximum, sizes, bits, ids, members, number, at, areas,
     )
 }
 
@@ -103,62 +72,31 @@ fn emit_item(
     limits: Limits,
     sizes: &[u64],
     bits: &[u64],
-    bytes: &[u8],
-    offsets: &[u32],
+    ids: &Ids,
     rank: &[u32],
     number: ChunkIdx,
     at: usize,
     members: &mut [u32],
-    chunk_of: &mut [u32],
-    group_of: &mut [u32],
-    name_of: &mut [u32],
-    size_of: &mut [f64],
-    bits_of: &mut [u64],
-    mark_of: &mut [u8],
+    areas: &mut ChunkAreas,
 ) -> usize
     requires item_ready { ItemReady (record {
-      bytes = bytes.now;
-      offsets = offsets.now;
+      bytes = ids.now.bytes.now;
+      offsets = ids.now.offsets.now;
       sizes = sizes.now;
       rank = rank.now;
-    }) bits.now members.old (record {
-      chunk_of = chunk_of.old;
-      group_of = group_of.old;
-      name_of = name_of.old;
-      size_of = size_of.old;
-      bits_of = bits_of.old;
-      mark_of = mark_of.old;
-    }) number.0 at }
+    }) bits.now members.old (work areas.old) number.0 at }
     requires totalled { Totalled sizes.now members.old total }
-    ensures { Converted (emitted_within limits.maximum (record {
-      bytes = bytes.now;
-      offsets = offsets.now;
+    ensures emitted { Converted (emitted_within limits.maximum (record {
+      bytes = ids.now.bytes.now;
+      offsets = ids.now.offsets.now;
       sizes = sizes.now;
       rank = rank.now;
-    }) head limits.minimum members.old) bits.now number.0 at result (record {
-      chunk_of = chunk_of.old;
-      group_of = group_of.old;
-      name_of = name_of.old;
-      size_of = size_of.old;
-      bits_of = bits_of.old;
-      mark_of = mark_of.old;
-    }) (record {
-      chunk_of = chunk_of.new;
-      group_of = group_of.new;
-      name_of = name_of.new;
-      size_of = size_of.new;
-      bits_of = bits_of.new;
-      mark_of = mark_of.new;
-    }) }
+    }) head limits.minimum members.old) bits.now number.0 at result (work areas.old) (work areas.new) }
+    ensures same { SameAreas areas.old areas.new }
 {
     let minimum = limits.minimum;
-    let given = limits.maximum;
-    let over = over_limit(given, total);
-    let Limit::Given(maximum) = over else {
-        emit_chunk(
-            head, members, total, WITHIN, bits, number, at, chunk_of, group_of, name_of, size_of,
-            bits_of, mark_of,
-        );
+    let Some(maximum) = over_limit(limits.maximum, total) else {
+        emit_chunk(head, members, total, WITHIN, bits, number, at, areas);
         return 1;
     };
     // There are two calls, each with a head of its kind, so that the compiler gives the tables of an item that is cut a frame of their own: an item
@@ -172,8 +110,7 @@ fn emit_item(
             bits: own,
         };
         return emit_over_maximum(
-            aware, total, minimum, maximum, sizes, bits, bytes, offsets, rank, number, at, members,
-            chunk_of, group_of, name_of, size_of, bits_of, mark_of,
+            aware, total, minimum, maximum, sizes, bits, ids, rank, number, at, members, areas,
         );
     }
     let plain = Head {
@@ -183,8 +120,7 @@ fn emit_item(
         bits: own,
     };
     emit_over_maximum(
-        plain, total, minimum, maximum, sizes, bits, bytes, offsets, rank, number, at, members,
-        chunk_of, group_of, name_of, size_of, bits_of, mark_of,
+        plain, total, minimum, maximum, sizes, bits, ids, rank, number, at, members, areas,
     )
 }
 
@@ -195,55 +131,30 @@ pub fn convert_item_to_chunks(
     list: &[u32],
     sizes: &[u64],
     bits: &[u64],
-    bytes: &[u8],
-    offsets: &[u32],
+    ids: &Ids,
     rank: &[u32],
     number: ChunkIdx,
     at: usize,
     members: &mut [u32],
-    chunk_of: &mut [u32],
-    group_of: &mut [u32],
-    name_of: &mut [u32],
-    size_of: &mut [f64],
-    bits_of: &mut [u64],
-    mark_of: &mut [u8],
+    areas: &mut ChunkAreas,
 ) -> usize
     requires item_ready { ItemReady (record {
-      bytes = bytes.now;
-      offsets = offsets.now;
+      bytes = ids.now.bytes.now;
+      offsets = ids.now.offsets.now;
       sizes = sizes.now;
       rank = rank.now;
-    }) bits.now (untaken chunk_of.old list.now) (record {
-      chunk_of = chunk_of.old;
-      group_of = group_of.old;
-      name_of = name_of.old;
-      size_of = size_of.old;
-      bits_of = bits_of.old;
-      mark_of = mark_of.old;
-    }) number.0 at }
-    requires listed { Listed chunk_of.old list.now members.old }
+    }) bits.now (untaken areas.old.chunk_of.now list.now) (work areas.old) number.0 at }
+    requires listed { Listed areas.old.chunk_of.now list.now members.old }
     ensures converted { Converted (emitted_from (record {
-      bytes = bytes.now;
-      offsets = offsets.now;
+      bytes = ids.now.bytes.now;
+      offsets = ids.now.offsets.now;
       sizes = sizes.now;
       rank = rank.now;
-    }) head limits (untaken chunk_of.old list.now)) bits.now number.0 at result (record {
-      chunk_of = chunk_of.old;
-      group_of = group_of.old;
-      name_of = name_of.old;
-      size_of = size_of.old;
-      bits_of = bits_of.old;
-      mark_of = mark_of.old;
-    }) (record {
-      chunk_of = chunk_of.new;
-      group_of = group_of.new;
-      name_of = name_of.new;
-      size_of = size_of.new;
-      bits_of = bits_of.new;
-      mark_of = mark_of.new;
-    }) }
+    }) head limits (untaken areas.old.chunk_of.now list.now)) bits.now number.0 at result (work areas.old) (work areas.new) }
     ensures members_len_unchanged { length members.new ≡ length members.old }
+    ensures same { SameAreas areas.old areas.new }
 {
+    let chunk_of = &mut *areas.chunk_of;
     let count = keep_left(list, chunk_of, members);
     if count == 0 {
         return 0;
@@ -258,17 +169,11 @@ pub fn convert_item_to_chunks(
         limits,
         sizes,
         bits,
-        bytes,
-        offsets,
+        ids,
         rank,
         number,
         at,
         &mut members[..count],
-        chunk_of,
-        group_of,
-        name_of,
-        size_of,
-        bits_of,
-        mark_of,
+        areas,
     )
 }

@@ -44,13 +44,11 @@ impl Candidate {
     pub fn seeks(self, threshold: f64) -> bool
         ensures { result ≡ seeking threshold self }
     {
-        if 0.0 < self.size {
-            return self.size < threshold;
-        }
-        false
+        0.0 < self.size && self.size < threshold
     }
 
-    // The fewest entries that tell it from the seeker first, then the smallest size, then the lowest number.
+    // The fewest entries that tell it from the seeker first, then the smallest size, then the lowest number. It is no comparison of tuples: at a size
+    // that is NaN that would answer false, where `comes_first` goes on to the numbers.
     pub fn comes_before(self, other: Candidate) -> bool
         ensures { result ≡ comes_first self other }
     {
@@ -74,10 +72,7 @@ impl Candidate {
     pub fn rules_out(self, wanted: u64, other: u64) -> bool
         ensures { result ≡ ltb self.distance (ones_apart wanted other) }
     {
-        if 64 <= self.distance {
-            return false;
-        }
-        self.distance < u64::count_ones(wanted ^ other)
+        self.distance < 64 && self.distance < (wanted ^ other).count_ones()
     }
 
     // The nearest so far, once number i was looked at.

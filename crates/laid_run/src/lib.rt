@@ -3,9 +3,13 @@
 
 ghost use Rattle.std.specs.Prelude.{◌≤◌};
 ghost use Rattle.run.specs.Ran.{Running, RunWritten};
+ghost use Rattle.emitting.specs.Emitted.{SameAreas};
 
 use contiguous::{lay_chains, worth_laying};
+use emitting::ChunkAreas;
+use ids::parts::Ids;
 use options::Settings;
+use records::Records;
 use run::run;
 
 // The run of `run`, over records that are laid anew, if `room` words are enough for the chains of all modules.
@@ -19,23 +23,15 @@ fn run_laid(
     shares: &[u32],
     tags: &[u64],
     bits: &[u64],
-    bytes: &[u8],
-    offsets: &[u32],
-    first: &[u32],
-    dependency: &[u32],
-    next: &[u32],
+    ids: &Ids,
+    records: &Records,
     by_order: &[u32],
     rank: &[u32],
     on_entry: u32,
     at: usize,
-    chunk_of: &mut [u32],
+    areas: &mut ChunkAreas,
     next_of: &mut [u32],
     first_of: &mut [u32],
-    group_of: &mut [u32],
-    name_of: &mut [u32],
-    size_of: &mut [f64],
-    bits_of: &mut [u64],
-    mark_of: &mut [u8],
     scratch: &mut [u32],
     room: usize,
 ) -> usize
@@ -45,69 +41,68 @@ fn run_laid(
       g = g;
       asked = record { answers = answers.now; tags = tags.now; shares = shares.now };
       n = n;
-      tables = record { bytes = bytes.now; offsets = offsets.now; sizes = sizes.now; rank = rank.now };
+      tables = record { bytes = ids.now.bytes.now; offsets = ids.now.offsets.now; sizes = sizes.now; rank = rank.now };
       bits = bits.now;
-      walking = record { flags = flags.now; first = first.now; dependency = dependency.now; next = next.now; order = by_order.now };
+      walking = record { flags = flags.now; first = records.now.first.now; dependency = records.now.dependency.now; next = records.now.next.now; order = by_order.now };
     })
         on_entry at (record {
-          modules = record { chunk_of = chunk_of.old; next_of = next_of.old };
+          modules = record { chunk_of = areas.old.chunk_of.now; next_of = next_of.old };
           records = record {
             first_of = first_of.old;
-            group_of = group_of.old;
-            name_of = name_of.old;
-            size_of = size_of.old;
-            bits_of = bits_of.old;
-            mark_of = mark_of.old;
+            group_of = areas.old.group_of.now;
+            name_of = areas.old.name_of.now;
+            size_of = areas.old.size_of.now;
+            bits_of = areas.old.bits_of.now;
+            mark_of = areas.old.mark_of.now;
           };
           scratch = scratch.old;
         }) }
-    ensures { RunWritten (record {
+    ensures written { RunWritten (record {
       settings = settings;
       g = g;
       asked = record { answers = answers.now; tags = tags.now; shares = shares.now };
       n = n;
-      tables = record { bytes = bytes.now; offsets = offsets.now; sizes = sizes.now; rank = rank.now };
+      tables = record { bytes = ids.now.bytes.now; offsets = ids.now.offsets.now; sizes = sizes.now; rank = rank.now };
       bits = bits.now;
       walking = record {
         flags = flags.now;
-        first = first.now;
-        dependency = dependency.now;
-        next = next.now;
+        first = records.now.first.now;
+        dependency = records.now.dependency.now;
+        next = records.now.next.now;
         order = by_order.now;
       };
     })
         on_entry at result (record {
-          modules = record { chunk_of = chunk_of.old; next_of = next_of.old };
+          modules = record { chunk_of = areas.old.chunk_of.now; next_of = next_of.old };
           records = record {
             first_of = first_of.old;
-            group_of = group_of.old;
-            name_of = name_of.old;
-            size_of = size_of.old;
-            bits_of = bits_of.old;
-            mark_of = mark_of.old;
+            group_of = areas.old.group_of.now;
+            name_of = areas.old.name_of.now;
+            size_of = areas.old.size_of.now;
+            bits_of = areas.old.bits_of.now;
+            mark_of = areas.old.mark_of.now;
           };
           scratch = scratch.old;
         })
         (record {
-          modules = record { chunk_of = chunk_of.new; next_of = next_of.new };
+          modules = record { chunk_of = areas.new.chunk_of.now; next_of = next_of.new };
           records = record {
             first_of = first_of.new;
-            group_of = group_of.new;
-            name_of = name_of.new;
-            size_of = size_of.new;
-            bits_of = bits_of.new;
-            mark_of = mark_of.new;
+            group_of = areas.new.group_of.now;
+            name_of = areas.new.name_of.now;
+            size_of = areas.new.size_of.now;
+            bits_of = areas.new.bits_of.now;
+            mark_of = areas.new.mark_of.now;
           };
           scratch = scratch.new;
         }) }
+    ensures same { SameAreas areas.old areas.new }
 {
     let mut to_first = [0u32; 4096];
     let mut to_dependency = [0u32; 65536];
     let mut to_next = [0u32; 65536];
     let count = lay_chains(
-        first,
-        dependency,
-        next,
+        records,
         &mut to_first,
         &mut to_dependency,
         &mut to_next,
@@ -115,39 +110,18 @@ fn run_laid(
     );
     if count == 0 {
         return run(
-            settings, g, answers, n, flags, sizes, shares, tags, bits, bytes, offsets, first,
-            dependency, next, by_order, rank, on_entry, at, chunk_of, next_of, first_of, group_of,
-            name_of, size_of, bits_of, mark_of, scratch,
+            settings, g, answers, n, flags, sizes, shares, tags, bits, ids, records, by_order,
+            rank, on_entry, at, areas, next_of, first_of, scratch,
         );
     }
+    let laid = Records {
+        first: &to_first[..n],
+        dependency: &to_dependency[..count],
+        next: &to_next[..count],
+    };
     run(
-        settings,
-        g,
-        answers,
-        n,
-        flags,
-        sizes,
-        shares,
-        tags,
-        bits,
-        bytes,
-        offsets,
-        &to_first[..n],
-        &to_dependency[..count],
-        &to_next[..count],
-        by_order,
-        rank,
-        on_entry,
-        at,
-        chunk_of,
-        next_of,
-        first_of,
-        group_of,
-        name_of,
-        size_of,
-        bits_of,
-        mark_of,
-        scratch,
+        settings, g, answers, n, flags, sizes, shares, tags, bits, ids, &laid, by_order, rank,
+        on_entry, at, areas, next_of, first_of, scratch,
     )
 }
 
@@ -162,23 +136,15 @@ pub fn run_side_by_side(
     shares: &[u32],
     tags: &[u64],
     bits: &[u64],
-    bytes: &[u8],
-    offsets: &[u32],
-    first: &[u32],
-    dependency: &[u32],
-    next: &[u32],
+    ids: &Ids,
+    records: &Records,
     by_order: &[u32],
     rank: &[u32],
     on_entry: u32,
     at: usize,
-    chunk_of: &mut [u32],
+    areas: &mut ChunkAreas,
     next_of: &mut [u32],
     first_of: &mut [u32],
-    group_of: &mut [u32],
-    name_of: &mut [u32],
-    size_of: &mut [f64],
-    bits_of: &mut [u64],
-    mark_of: &mut [u8],
     scratch: &mut [u32],
 ) -> usize
     requires { Running (record {
@@ -186,67 +152,67 @@ pub fn run_side_by_side(
       g = g;
       asked = record { answers = answers.now; tags = tags.now; shares = shares.now };
       n = n;
-      tables = record { bytes = bytes.now; offsets = offsets.now; sizes = sizes.now; rank = rank.now };
+      tables = record { bytes = ids.now.bytes.now; offsets = ids.now.offsets.now; sizes = sizes.now; rank = rank.now };
       bits = bits.now;
-      walking = record { flags = flags.now; first = first.now; dependency = dependency.now; next = next.now; order = by_order.now };
+      walking = record { flags = flags.now; first = records.now.first.now; dependency = records.now.dependency.now; next = records.now.next.now; order = by_order.now };
     })
         on_entry at (record {
-          modules = record { chunk_of = chunk_of.old; next_of = next_of.old };
+          modules = record { chunk_of = areas.old.chunk_of.now; next_of = next_of.old };
           records = record {
             first_of = first_of.old;
-            group_of = group_of.old;
-            name_of = name_of.old;
-            size_of = size_of.old;
-            bits_of = bits_of.old;
-            mark_of = mark_of.old;
+            group_of = areas.old.group_of.now;
+            name_of = areas.old.name_of.now;
+            size_of = areas.old.size_of.now;
+            bits_of = areas.old.bits_of.now;
+            mark_of = areas.old.mark_of.now;
           };
           scratch = scratch.old;
         }) }
-    ensures { RunWritten (record {
+    ensures written { RunWritten (record {
       settings = settings;
       g = g;
       asked = record { answers = answers.now; tags = tags.now; shares = shares.now };
       n = n;
-      tables = record { bytes = bytes.now; offsets = offsets.now; sizes = sizes.now; rank = rank.now };
+      tables = record { bytes = ids.now.bytes.now; offsets = ids.now.offsets.now; sizes = sizes.now; rank = rank.now };
       bits = bits.now;
       walking = record {
         flags = flags.now;
-        first = first.now;
-        dependency = dependency.now;
-        next = next.now;
+        first = records.now.first.now;
+        dependency = records.now.dependency.now;
+        next = records.now.next.now;
         order = by_order.now;
       };
     })
         on_entry at result (record {
-          modules = record { chunk_of = chunk_of.old; next_of = next_of.old };
+          modules = record { chunk_of = areas.old.chunk_of.now; next_of = next_of.old };
           records = record {
             first_of = first_of.old;
-            group_of = group_of.old;
-            name_of = name_of.old;
-            size_of = size_of.old;
-            bits_of = bits_of.old;
-            mark_of = mark_of.old;
+            group_of = areas.old.group_of.now;
+            name_of = areas.old.name_of.now;
+            size_of = areas.old.size_of.now;
+            bits_of = areas.old.bits_of.now;
+            mark_of = areas.old.mark_of.now;
           };
           scratch = scratch.old;
         })
         (record {
-          modules = record { chunk_of = chunk_of.new; next_of = next_of.new };
+          modules = record { chunk_of = areas.new.chunk_of.now; next_of = next_of.new };
           records = record {
             first_of = first_of.new;
-            group_of = group_of.new;
-            name_of = name_of.new;
-            size_of = size_of.new;
-            bits_of = bits_of.new;
-            mark_of = mark_of.new;
+            group_of = areas.new.group_of.now;
+            name_of = areas.new.name_of.now;
+            size_of = areas.new.size_of.now;
+            bits_of = areas.new.bits_of.now;
+            mark_of = areas.new.mark_of.now;
           };
           scratch = scratch.new;
         }) }
+    ensures same { SameAreas areas.old areas.new }
 {
-    if !worth_laying(g, next) {
+    if !worth_laying(g, records.next) {
         return run(
-            settings, g, answers, n, flags, sizes, shares, tags, bits, bytes, offsets, first,
-            dependency, next, by_order, rank, on_entry, at, chunk_of, next_of, first_of, group_of,
-            name_of, size_of, bits_of, mark_of, scratch,
+            settings, g, answers, n, flags, sizes, shares, tags, bits, ids, records, by_order,
+            rank, on_entry, at, areas, next_of, first_of, scratch,
         );
     }
     // There are two calls, so that the compiler gives the new tables a frame of their own, which other builds do not pay for. Where there are many
@@ -262,30 +228,21 @@ pub fn run_side_by_side(
             shares,
             tags,
             bits,
-            bytes,
-            offsets,
-            first,
-            dependency,
-            next,
+            ids,
+            records,
             by_order,
             rank,
             on_entry,
             at,
-            chunk_of,
+            areas,
             next_of,
             first_of,
-            group_of,
-            name_of,
-            size_of,
-            bits_of,
-            mark_of,
             scratch,
-            next.len(),
+            records.next.len(),
         );
     }
     run_laid(
-        settings, g, answers, n, flags, sizes, shares, tags, bits, bytes, offsets, first,
-        dependency, next, by_order, rank, on_entry, at, chunk_of, next_of, first_of, group_of,
-        name_of, size_of, bits_of, mark_of, scratch, 65536,
+        settings, g, answers, n, flags, sizes, shares, tags, bits, ids, records, by_order, rank,
+        on_entry, at, areas, next_of, first_of, scratch, 65536,
     )
 }

@@ -1,119 +1,97 @@
 // The tables of the largest build, changed and handed over.
-use buildlines::rows;
-use filter::MinShareCount;
-use largestcalls::lend;
-use largesttables::{counts, fill, spoil};
-use limit::Limit;
-use options::{Options, Recursion};
+ghost use Rattle.std.specs.Prelude.{◌≤◌};
 
-// No option is given to the whole build.
-fn no_options() -> Options {
-    Options {
-        min_size: Limit::Absent,
-        max_size: Limit::Absent,
-        min_module_size: Limit::Absent,
-        max_module_size: Limit::Absent,
-        min_share_count: MinShareCount::Absent,
-        recursion: Recursion::Absent,
+use buildlines::counts::Counts;
+use buildlines::given::GivenOptions;
+use buildlines::tables::prefix;
+use largesttables::change::Change;
+use largesttables::counts;
+use largesttables::tables::Tables;
+use options::tables::Groups;
+use plainsplit::{Build, ModuleTables, ids_of};
+use records::Records;
+
+// What is absent or zero everywhere is one table for all.
+const NUMBERS: [u32; 4097] = [0; 4097];
+
+const WORDS: [u64; 4097] = [0; 4097];
+
+const LIMITS: [f64; 65] = [0.0; 65];
+
+// Each table is as long as the counts imply.
+fn modules<'a>(tables: &'a Tables, n: usize) -> ModuleTables<'a>
+    requires { n ≤ 4097 }
+{
+    ModuleTables {
+        flags: prefix(&tables.flags, n),
+        sizes: prefix(&tables.sizes, n),
+        orders: prefix(&tables.orders, n),
+        shares: prefix(&NUMBERS, n),
+        tags: prefix(&WORDS, n),
+        bits: prefix(&tables.bits, 4 * n),
+        ids: ids_of(
+            prefix(&tables.ids, 2 * n + 1022),
+            prefix(&tables.offsets, n + 1),
+        ),
     }
 }
 
-// Each table is as long as the counts imply. What is absent or zero everywhere is one table for all.
-fn hand_over(
-    change: usize,
-    flags: &[u8; 4097],
-    sizes: &[u64; 4097],
-    orders: &[u32; 4097],
-    bits: &[u64; 16388],
-    ids: &[u8; 9216],
-    offsets: &[u32; 4098],
-    first: &[u32; 4097],
-    dependency: &[u32; 65537],
-    next: &[u32; 65537],
-    given: &[u8; 65],
-    priority: &[u32; 65],
-    threshold: &[f64; 65],
-    answers: &[u32; 266305],
-    numbers: &[u32; 4097],
-    words: &[u64; 4097],
-    limits: &[f64; 65],
-) {
+fn records<'a>(tables: &'a Tables, counts: Counts) -> Records<'a>
+    requires { counts.d ≤ 65536 }
+{
+    Records {
+        first: prefix(&tables.first, counts.n),
+        dependency: prefix(&tables.dependency, counts.d + 1),
+        next: prefix(&tables.next, counts.d + 1),
+    }
+}
+
+fn groups<'a>(tables: &'a Tables, g: usize) -> Groups<'a> {
+    Groups {
+        given: prefix(&tables.given, g),
+        min_size: prefix(&LIMITS, g),
+        max_size: prefix(&LIMITS, g),
+        min_module_size: prefix(&LIMITS, g),
+        max_module_size: prefix(&LIMITS, g),
+        min_share_count: prefix(&NUMBERS, g),
+        tags: prefix(&WORDS, g),
+        priority: prefix(&tables.priority, g),
+        threshold: prefix(&tables.threshold, g),
+    }
+}
+
+// No option is given to the whole build.
+fn answer(change: Change, tables: &Tables) {
     let counts = counts::counts_of(change);
-    let n = counts.n;
-    let g = counts.g;
-    let d = counts.d + 1;
-    lend::lend(
-        change,
+    let build = Build {
         counts,
-        rows::bytes(flags, 0, n),
-        rows::longs(sizes, 0, n),
-        rows::shorts(orders, 0, n),
-        rows::shorts(numbers, 0, n),
-        rows::longs(words, 0, n),
-        rows::longs(bits, 0, 4 * n),
-        rows::bytes(ids, 0, 2 * n + 1022),
-        rows::shorts(offsets, 0, n + 1),
-        rows::shorts(first, 0, n),
-        rows::shorts(dependency, 0, d),
-        rows::shorts(next, 0, d),
-        no_options(),
-        rows::bytes(given, 0, g),
-        rows::doubles(limits, 0, g),
-        rows::shorts(numbers, 0, g),
-        rows::longs(words, 0, g),
-        rows::shorts(priority, 0, g),
-        rows::doubles(threshold, 0, g),
-        rows::shorts(answers, 0, counts.answers),
-    );
+        options: GivenOptions::NONE.to_options(),
+        modules: modules(tables, counts.n),
+        records: records(tables, counts),
+        groups: groups(tables, counts.g),
+        answers: prefix(&tables.answers, counts::answers_of(change)),
+    };
+    largestcalls::answer(change, build);
 }
 
 // Module 0 has the first record; all records but one past the limit are on its chain.
-pub fn run(change: usize) {
-    let mut flags = [3u8; 4097];
-    let mut sizes = [2199023255552u64; 4097];
-    let mut orders = [0u32; 4097];
-    let mut bits = [0u64; 16388];
-    let mut ids = [0u8; 9216];
-    let mut offsets = [0u32; 4098];
-    let mut first = [0u32; 4097];
-    let mut dependency = [0u32; 65537];
-    let mut next = [0u32; 65537];
-    let mut given = [0u8; 65];
-    let mut priority = [0u32; 65];
-    let mut threshold = [0.0; 65];
-    let mut answers = [0u32; 266305];
-    let counts = counts::counts_of(change);
-    fill::modules(&mut orders, &mut bits, &mut ids, &mut offsets);
-    fill::records(counts.d, &mut first, &mut dependency, &mut next);
-    fill::groups(&mut given, &mut priority);
-    fill::answers(&mut answers);
-    spoil::modules(
-        change,
-        &mut flags,
-        &mut sizes,
-        &mut orders,
-        &mut ids,
-        &mut offsets,
-    );
-    spoil::records(change, &mut first, &mut dependency, &mut next);
-    spoil::groups(change, &mut threshold, &mut answers);
-    hand_over(
-        change,
-        &flags,
-        &sizes,
-        &orders,
-        &bits,
-        &ids,
-        &offsets,
-        &first,
-        &dependency,
-        &next,
-        &given,
-        &priority,
-        &threshold,
-        &answers,
-        &[0u32; 4097],
-        &[0u64; 4097],
-        &[0.0; 65],
-    );
+pub fn run(change: Change) {
+    let mut tables = Tables {
+        flags: [3; 4097],
+        sizes: [2199023255552; 4097],
+        orders: [0; 4097],
+        bits: [0; 16388],
+        ids: [0; 9216],
+        offsets: [0; 4098],
+        first: [0; 4097],
+        dependency: [0; 65537],
+        next: [0; 65537],
+        given: [0; 65],
+        priority: [0; 65],
+        threshold: [0.0; 65],
+        answers: [0; 266305],
+    };
+    tables.fill(counts::counts_of(change).d);
+    tables.spoil(change);
+    answer(change, &tables);
 }

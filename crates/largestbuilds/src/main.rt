@@ -4,11 +4,11 @@
 
 mod build;
 
+use largesttables::change;
+
 fn main() {
-    let mut change = 0;
-    while change < 30 {
-        largestlist::labels::label(change);
+    for change in change::ALL {
+        textform::out::text(change.label());
         build::run(change);
-        change = change + 1;
     }
 }

@@ -1,6 +1,7 @@
 // Looks at every entry of the areas. What is wrong is a line that begins with `!`.
 ghost use Rattle.std.specs.Prelude.{◌≤◌};
 
+use crate::areas::Areas;
 use listform::areas;
 use textform::out;
 
@@ -11,45 +12,52 @@ pub fn warn(what: &[u8]) {
 }
 
 fn numbers(what: &[u8], area: &[u32], from: usize) {
-    if !areas::numbers_kept(area, from) {
+    if !areas::kept(area, from) {
         warn(what);
     }
 }
 
 // Areas of chunk records from a record on.
-pub fn records(
-    from: usize,
-    first_of: &[u32; 4099],
-    group_of: &[u32; 4099],
-    name_of: &[u32; 4099],
-    size_of: &[f64; 4099],
-    bits_of: &[u64; 16396],
-    mark_of: &[u8; 4099],
-)
+pub fn records(held: Areas, from: usize)
     requires { from ≤ 4096 }
 {
+    let Areas {
+        first_of,
+        group_of,
+        name_of,
+        size_of,
+        bits_of,
+        mark_of,
+        ..
+    } = held;
     numbers(b"first_of was written", first_of, from);
     numbers(b"group_of was written", group_of, from);
     numbers(b"name_of was written", name_of, from);
-    if !areas::sizes_kept(size_of, from) {
+    if !areas::kept(size_of, from) {
         warn(b"size_of was written");
     }
-    if !areas::words_kept(bits_of, 4 * from) {
+    if !areas::kept(bits_of, 4 * from) {
         warn(b"bits_of was written");
     }
-    if !areas::bytes_kept(mark_of, from) {
+    if !areas::kept(mark_of, from) {
         warn(b"mark_of was written");
     }
 }
 
 // Areas of modules from a module on.
-pub fn modules(from: usize, chunk_of: &[u32; 4099], next_of: &[u32; 4099]) {
+pub fn modules(held: Areas, from: usize) {
+    let Areas {
+        chunk_of,
+        next_of,
+        ..
+    } = held;
     numbers(b"chunk_of was written", chunk_of, from);
     numbers(b"next_of was written", next_of, from);
 }
 
 // Scratch, of which so many words have to be zero and the others as they were.
-pub fn scratch(zeros: usize, area: &[u32; 393219]) {
+pub fn scratch(held: Areas, zeros: usize) {
+    let area = held.scratch;
     if !areas::zeros(area, zeros) {
         warn(b"scratch is not zero");
     }

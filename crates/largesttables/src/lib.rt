@@ -6,6 +6,8 @@
 // module. Only group 0 captures dependencies; it comes last, so that it makes a chunk of what the others leave.
 #![tactic(auto)]
 
+pub mod change;
 pub mod counts;
 pub mod fill;
 pub mod spoil;
+pub mod tables;

@@ -10,14 +10,12 @@ pub fn keep_left(list: &[u32], chunk_of: &[u32], members: &mut [u32]) -> usize
     ensures { Kept (untaken chunk_of.now list.now) result members.old members.new }
 {
     let mut count = 0;
-    let mut i = 0;
-    while i < list.len() {
-        let m = list[i];
+    for module in list {
+        let m = *module;
         members[count] = m;
         if chunk_of[m as usize] == 0 {
-            count = count + 1;
+            count += 1;
         }
-        i = i + 1;
     }
     count
 }

@@ -12,8 +12,7 @@ use Rattle.grouping.specs.Written.{chunk_number, bit_words}
 use Rattle.lists.specs.Area.{placed}
 use Rattle.grouping_laws.proofs.Places.{places_mem}
 use Rattle.settling.specs.Modules.{module_at}
-use Rattle.emitting.specs.Emitted.{Work}
-use Rattle.emitting.proofs.Chunk.{SameLengths}
+use Rattle.emitting.specs.Emitted.{Work, SameLengths}
 use Rattle.linking.specs.Made.{modules_of_each, Made, HasRoom}
 use Rattle.linking.proofs.PerModule.{module_read, module_long, module_length}
 use Rattle.lists.proofs.Placed.{placed_length}

@@ -31,14 +31,11 @@ pub fn link(
         ≡ linked chunk_of.now base at order.now
         (record { next_of = next_of.old; first_of = first_of.old }) }
 {
-    let mut left = order.len();
-    while 0 < left {
-        left = left - 1;
-        let m = order[left];
-        let c = chunk_of[m as usize];
+    for m in order.iter().rev() {
+        let c = chunk_of[*m as usize];
         if 0 < c {
             let slot = at + (c - base - 1) as usize;
-            push_front(ModuleIdx(m), slot, next_of, first_of);
+            push_front(ModuleIdx(*m), slot, next_of, first_of);
         }
     }
 }

@@ -8,90 +8,42 @@ pub const WORD: u64 = 11936128518282651045;
 
 pub const SIZE: f64 = -0.5;
 
+// The entries of an area, and what each holds before a call.
+pub trait Entry: PartialEq + Copy {
+    const HELD: Self;
+}
+
+impl Entry for u8 {
+    const HELD: u8 = BYTE;
+}
+
+impl Entry for u32 {
+    const HELD: u32 = NUMBER;
+}
+
+impl Entry for u64 {
+    const HELD: u64 = WORD;
+}
+
+impl Entry for f64 {
+    const HELD: f64 = SIZE;
+}
+
 // The first n entries of an area; none where it has fewer.
-pub fn lent_bytes(area: &mut [u8], n: usize) -> &mut [u8] {
+pub fn lent<T>(area: &mut [T], n: usize) -> &mut [T] {
     if n <= area.len() {
-        return &mut area[0..n];
+        &mut area[..n]
+    } else {
+        &mut area[..0]
     }
-    &mut area[0..0]
 }
 
-pub fn lent_numbers(area: &mut [u32], n: usize) -> &mut [u32] {
-    if n <= area.len() {
-        return &mut area[0..n];
-    }
-    &mut area[0..0]
-}
-
-pub fn lent_words(area: &mut [u64], n: usize) -> &mut [u64] {
-    if n <= area.len() {
-        return &mut area[0..n];
-    }
-    &mut area[0..0]
-}
-
-pub fn lent_sizes(area: &mut [f64], n: usize) -> &mut [f64] {
-    if n <= area.len() {
-        return &mut area[0..n];
-    }
-    &mut area[0..0]
-}
-
-// Whether all numbers from a place on are as they were.
-pub fn numbers_kept(area: &[u32], from: usize) -> bool {
-    let mut i = from;
-    while i < area.len() {
-        if area[i] != NUMBER {
-            return false;
-        }
-        i = i + 1;
-    }
-    true
-}
-
-pub fn bytes_kept(area: &[u8], from: usize) -> bool {
-    let mut i = from;
-    while i < area.len() {
-        if area[i] != BYTE {
-            return false;
-        }
-        i = i + 1;
-    }
-    true
-}
-
-pub fn words_kept(area: &[u64], from: usize) -> bool {
-    let mut i = from;
-    while i < area.len() {
-        if area[i] != WORD {
-            return false;
-        }
-        i = i + 1;
-    }
-    true
-}
-
-pub fn sizes_kept(area: &[f64], from: usize) -> bool {
-    let mut i = from;
-    while i < area.len() {
-        if area[i] != SIZE {
-            return false;
-        }
-        i = i + 1;
-    }
-    true
+// Whether all entries from a place on are as they were.
+pub fn kept<T: Entry>(area: &[T], from: usize) -> bool {
+    area.iter().skip(from).all(|entry| *entry == T::HELD)
 }
 
 // Whether the first so many numbers are zero.
 pub fn zeros(area: &[u32], count: usize) -> bool {
-    let mut i = 0;
-    while i < area.len() {
-        if i < count {
-            if area[i] != 0 {
-                return false;
-            }
-        }
-        i = i + 1;
-    }
-    true
+    area.iter().take(count).all(|n| *n == 0)
 }

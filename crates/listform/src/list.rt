@@ -4,167 +4,141 @@ ghost use Rattle.std.specs.Prelude.{◌<◌, ◌≤◌};
 use index::ModuleIdx;
 use textform::out;
 
+// The areas after a call.
+#[derive(Clone, Copy)]
+pub struct ChunkList<'a> {
+    pub chunk_of: &'a [u32; 128],
+    pub next_of: &'a [u32; 128],
+    pub first_of: &'a [u32; 128],
+    pub group_of: &'a [u32; 128],
+    pub name_of: &'a [u32; 128],
+    pub size_of: &'a [f64; 128],
+    pub bits_of: &'a [u64; 512],
+    pub mark_of: &'a [u8; 128],
+    pub scratch: &'a [u32; 73728],
+}
+
 // A word of entry bits.
 fn word(n: u64) {
     out::blank();
     io::print_hex(1, n, 1);
 }
 
-fn bits(r: usize, bits_of: &[u64; 512])
-    requires { r < 128 }
-{
-    let from = 4 * r;
-    word(bits_of[from]);
-    word(bits_of[from + 1]);
-    word(bits_of[from + 2]);
-    word(bits_of[from + 3]);
-}
-
 // A chunk's mark: whether it is above its maximum, and why.
 fn mark(held: u8) {
     out::blank();
-    out::number(held as u64);
-}
-
-// A module, and what the area says after it: the next module plus 1, or 0. Past the last module there is no good number.
-fn module_and_next(m: ModuleIdx, n: usize, next_of: &[u32; 128]) -> u32
-    requires { n ≤ 128 }
-{
-    out::blank();
-    out::short(m.0);
-    let i = m.0 as usize;
-    if i < n {
-        return next_of[i];
-    }
-    4294967295
-}
-
-// The modules of a chunk. Answers whether the chain ends, and names modules alone.
-fn modules(first: u32, n: usize, next_of: &[u32; 128]) -> bool
-    requires { n ≤ 128 }
-{
-    let mut rest = first;
-    let mut i = 0;
-    while i < n {
-        if rest == 0 {
-            return true;
-        }
-        rest = module_and_next(ModuleIdx(rest - 1), n, next_of);
-        i = i + 1;
-    }
-    rest == 0
+    out::number(held);
 }
 
 // The number of the chunk that a module is in, which is held plus 1.
 fn number(held: u32) {
-    if held == 0 {
-        out::text(b"?");
-        return;
-    }
-    out::short(held - 1);
-}
-
-// The number of a chunk, which its first module has. That module is held plus 1.
-fn chunk_number(first: u32, chunk_of: &[u32; 128]) {
-    if first == 0 {
-        return;
-    }
-    let i = (first - 1) as usize;
-    if i < 128 {
-        number(chunk_of[i]);
+    match held.checked_sub(1) {
+        Some(chunk) => out::number(chunk),
+        None => out::text(b"?"),
     }
 }
 
-// The line of a chunk. Answers whether its chain is good.
-fn chunk(
-    r: usize,
-    n: usize,
-    chunk_of: &[u32; 128],
-    next_of: &[u32; 128],
-    first_of: &[u32; 128],
-    group_of: &[u32; 128],
-    name_of: &[u32; 128],
-    size_of: &[f64; 128],
-    bits_of: &[u64; 512],
-    mark_of: &[u8; 128],
-) -> bool
-    requires { (r < 128) × (n ≤ 128) }
-{
-    let first = first_of[r];
-    out::text(b"c ");
-    chunk_number(first, chunk_of);
-    out::blank();
-    out::short(group_of[r]);
-    out::blank();
-    out::short(name_of[r]);
-    out::double(size_of[r]);
-    out::size(size_of[r]);
-    bits(r, bits_of);
-    mark(mark_of[r]);
-    let good = modules(first, n, next_of);
-    out::line_end();
-    good
-}
-
-// The lines of the new chunks. Answers whether all their chains are good.
-pub fn chunks(
-    count: usize,
-    n: usize,
-    chunk_of: &[u32; 128],
-    next_of: &[u32; 128],
-    first_of: &[u32; 128],
-    group_of: &[u32; 128],
-    name_of: &[u32; 128],
-    size_of: &[f64; 128],
-    bits_of: &[u64; 512],
-    mark_of: &[u8; 128],
-) -> bool
-    requires { (count ≤ 128) × (n ≤ 128) }
-{
-    let mut good = true;
-    let mut i = 0;
-    while i < count {
-        if !chunk(
-            i, n, chunk_of, next_of, first_of, group_of, name_of, size_of, bits_of, mark_of,
-        ) {
-            good = false;
+impl ChunkList<'_> {
+    fn bits(self, r: usize)
+        requires { r < 128 }
+    {
+        let bits_of = self.bits_of;
+        for n in &bits_of[4 * r..4 * r + 4] {
+            word(*n);
         }
-        i = i + 1;
     }
-    good
-}
 
-// The line of the modules: the chunk of each plus 1, or 0.
-pub fn chunk_of_modules(n: usize, chunk_of: &[u32; 128])
-    requires { n ≤ 128 }
-{
-    out::text(b"m");
-    let mut i = 0;
-    while i < n {
+    // A module, and what the area says after it: the next module plus 1, or 0. Past the last module there is no good number.
+    fn module_and_next(self, m: ModuleIdx, n: usize) -> u32
+        requires { n ≤ 128 }
+    {
         out::blank();
-        out::short(chunk_of[i]);
-        i = i + 1;
+        out::number(m.0);
+        let next_of = self.next_of;
+        next_of[..n].get(m.0 as usize).copied().unwrap_or(u32::MAX)
     }
-    out::text(b"\nend\n");
-}
 
-fn is_loose(held: u32, next: u32) -> bool {
-    if held == 0 {
-        return next != 0;
-    }
-    false
-}
-
-// Whether a module that is in no chunk has a next one all the same, which no line shows.
-pub fn any_loose(n: usize, chunk_of: &[u32; 128], next_of: &[u32; 128]) -> bool
-    requires { n ≤ 128 }
-{
-    let mut i = 0;
-    while i < n {
-        if is_loose(chunk_of[i], next_of[i]) {
-            return true;
+    // The modules of a chunk. Answers whether the chain ends, and names modules alone.
+    fn modules(self, first: u32, n: usize) -> bool
+        requires { n ≤ 128 }
+    {
+        let mut rest = first;
+        for _ in 0..n {
+            if rest == 0 {
+                return true;
+            }
+            rest = self.module_and_next(ModuleIdx(rest - 1), n);
         }
-        i = i + 1;
+        rest == 0
     }
-    false
+
+    // The number of a chunk, which its first module has. That module is held plus 1.
+    fn chunk_number(self, first: u32) {
+        let Some(module) = first.checked_sub(1) else {
+            return;
+        };
+        let chunk_of = self.chunk_of;
+        if let Some(held) = chunk_of.get(module as usize) {
+            number(*held);
+        }
+    }
+
+    // The line of a chunk. Answers whether its chain is good.
+    fn chunk(self, r: usize, n: usize) -> bool
+        requires { (r < 128) × (n ≤ 128) }
+    {
+        let first = self.first_of[r];
+        out::text(b"c ");
+        self.chunk_number(first);
+        out::blank();
+        out::number(self.group_of[r]);
+        out::blank();
+        out::number(self.name_of[r]);
+        out::double(self.size_of[r]);
+        out::size(self.size_of[r]);
+        self.bits(r);
+        mark(self.mark_of[r]);
+        let good = self.modules(first, n);
+        out::line_end();
+        good
+    }
+
+    // The lines of the new chunks. Answers whether all their chains are good.
+    pub fn chunks(self, count: usize, n: usize) -> bool
+        requires { (count ≤ 128) × (n ≤ 128) }
+    {
+        let mut good = true;
+        for r in 0..count {
+            if !self.chunk(r, n) {
+                good = false;
+            }
+        }
+        good
+    }
+
+    // The line of the modules: the chunk of each plus 1, or 0.
+    pub fn chunk_of_modules(self, n: usize)
+        requires { n ≤ 128 }
+    {
+        out::text(b"m");
+        let chunk_of = self.chunk_of;
+        for held in &chunk_of[..n] {
+            out::blank();
+            out::number(*held);
+        }
+        out::text(b"\nend\n");
+    }
+
+    // Whether a module that is in no chunk has a next one all the same, which no line shows.
+    pub fn any_loose(self, n: usize) -> bool
+        requires { n ≤ 128 }
+    {
+        let ChunkList {
+            chunk_of,
+            next_of,
+            ..
+        } = self;
+        let mut modules = chunk_of[..n].iter().zip(&next_of[..n]);
+        modules.any(|(held, next)| *held == 0 && *next != 0)
+    }
 }

@@ -2,6 +2,8 @@
 ghost use Rattle.std.specs.Prelude.{◌≤◌};
 
 use crate::areas;
+use crate::areas::Entry;
+use crate::list::ChunkList;
 use textform::out;
 
 pub fn warn(tag: &[u8], what: &[u8]) {
@@ -11,66 +13,58 @@ pub fn warn(tag: &[u8], what: &[u8]) {
     out::line_end();
 }
 
-fn numbers(tag: &[u8], what: &[u8], area: &[u32], from: usize) {
-    if !areas::numbers_kept(area, from) {
+// Entries from a place on, which no call may have written.
+fn untouched<T: Entry>(tag: &[u8], what: &[u8], area: &[T], from: usize) {
+    if !areas::kept(area, from) {
         warn(tag, what);
     }
 }
 
-fn bytes(tag: &[u8], what: &[u8], area: &[u8], from: usize) {
-    if !areas::bytes_kept(area, from) {
-        warn(tag, what);
+impl ChunkList<'_> {
+    // Areas of chunk records from a record on.
+    pub fn look_at_records(self, tag: &[u8], from: usize)
+        requires { from ≤ 128 }
+    {
+        let ChunkList {
+            first_of,
+            group_of,
+            name_of,
+            size_of,
+            bits_of,
+            mark_of,
+            ..
+        } = self;
+        untouched(tag, b"first_of was written", first_of, from);
+        untouched(tag, b"group_of was written", group_of, from);
+        untouched(tag, b"name_of was written", name_of, from);
+        untouched(tag, b"size_of was written", size_of, from);
+        untouched(tag, b"bits_of was written", bits_of, 4 * from);
+        untouched(tag, b"mark_of was written", mark_of, from);
     }
-}
 
-fn words(tag: &[u8], what: &[u8], area: &[u64], from: usize) {
-    if !areas::words_kept(area, from) {
-        warn(tag, what);
+    // Areas of modules from a module on.
+    pub fn look_at_modules(self, tag: &[u8], from: usize) {
+        let ChunkList {
+            chunk_of,
+            next_of,
+            ..
+        } = self;
+        untouched(tag, b"chunk_of was written", chunk_of, from);
+        untouched(tag, b"next_of was written", next_of, from);
     }
-}
 
-fn sizes(tag: &[u8], what: &[u8], area: &[f64], from: usize) {
-    if !areas::sizes_kept(area, from) {
-        warn(tag, what);
+    // Scratch that was not lent, from a place on.
+    pub fn look_at_scratch(self, tag: &[u8], from: usize) {
+        let scratch = self.scratch;
+        untouched(tag, b"scratch was written", scratch, from);
     }
-}
 
-// Areas of chunk records from a record on.
-pub fn records(
-    tag: &[u8],
-    from: usize,
-    first_of: &[u32; 128],
-    group_of: &[u32; 128],
-    name_of: &[u32; 128],
-    size_of: &[f64; 128],
-    bits_of: &[u64; 512],
-    mark_of: &[u8; 128],
-)
-    requires { from ≤ 128 }
-{
-    numbers(tag, b"first_of was written", first_of, from);
-    numbers(tag, b"group_of was written", group_of, from);
-    numbers(tag, b"name_of was written", name_of, from);
-    sizes(tag, b"size_of was written", size_of, from);
-    words(tag, b"bits_of was written", bits_of, 4 * from);
-    bytes(tag, b"mark_of was written", mark_of, from);
-}
-
-// Areas of modules from a module on.
-pub fn modules(tag: &[u8], from: usize, chunk_of: &[u32; 128], next_of: &[u32; 128]) {
-    numbers(tag, b"chunk_of was written", chunk_of, from);
-    numbers(tag, b"next_of was written", next_of, from);
-}
-
-// Scratch that was not lent, from a place on.
-pub fn scratch(tag: &[u8], from: usize, area: &[u32; 73728]) {
-    numbers(tag, b"scratch was written", area, from);
-}
-
-// Scratch after a call that was not refused: zeros as far as it was lent.
-pub fn cleared_scratch(tag: &[u8], lent: usize, area: &[u32; 73728]) {
-    if !areas::zeros(area, lent) {
-        warn(tag, b"scratch is not zero");
+    // Scratch after a call that was not refused: zeros as far as it was lent.
+    pub fn look_at_cleared_scratch(self, tag: &[u8], lent: usize) {
+        let scratch = self.scratch;
+        if !areas::zeros(scratch, lent) {
+            warn(tag, b"scratch is not zero");
+        }
+        self.look_at_scratch(tag, lent);
     }
-    scratch(tag, lent, area);
 }

@@ -1,9 +1,10 @@
 -- Tests over the numbers below a bound: what an answer says of each number, that tests which agree have the same answer,
 -- and how a bound splits in two.
 use Prim.Native.Nat.{ℕ, zero, suc, ◌+◌, ◌<◌}
-use mathlib.Core.Bool.{Bool, true, false, ◌&&◌, ◌||◌, cond, or_assoc, or-true, and-false, true≢false, false≢true}
+use mathlib.Core.Bool.{Bool, true, false, ◌&&◌, ◌||◌, cond, or_assoc, or_comm, and_comm, or-true, and-false, true≢false, false≢true}
 use mathlib.Core.Logic.{⊎_elim}
 use mathlib.Core.Path.{◌≡◌, refl, sym, ap, ◌∙◌, subst}
+use native.Mathlib.Numerals.{add-one}
 use native.Mathlib.Nat.{add-zero, add-suc, add_assoc, not-suc-le-zero, eq-or-lt_of_le, le_of_suc-le-suc, lt-suc_self, lt_of_lt_of_le, le_of_lt}
 use Rattle.lists.specs.Below.{any_below, all_below, count_below}
 
@@ -68,6 +69,11 @@ unfolding any_below
 any_same p q zero h = refl
 any_same p q (suc n) h = rw (h n (lt-suc_self n), any_same p q n (λ k l. h k (below_weaker l)))
 
+-- one number more, in the order in which a loop meets them
+pub any_last : (p : ℕ → Bool) (n : ℕ) → (any_below p n || p n) ≡ any_below p (n + 1)
+unfolding any_below
+any_last p n = rw (add-one n) (or_comm (any_below p n) (p n))
+
 -- the numbers below m, then the n from m on
 pub any_split : (p : ℕ → Bool) (m n : ℕ) → any_below p (m + n) ≡ (any_below (λ k. p (m + k)) n || any_below p m)
 unfolding any_below
@@ -97,6 +103,10 @@ all_not p (suc n) k h e =
     (λ q. let t : p n ≡ false = ap p (sym q) ∙ e in rw t)
     (λ l. rw (all_not p n k l e) (and-false (p n)))
     (eq-or-lt_of_le (le_of_suc-le-suc h))
+
+pub all_last : (p : ℕ → Bool) (n : ℕ) → (all_below p n && p n) ≡ all_below p (n + 1)
+unfolding all_below
+all_last p n = rw (add-one n) (and_comm (all_below p n) (p n))
 
 -- ---- how many
 

@@ -1,6 +1,5 @@
-// Small definitions over lists and numbers, with their laws, for the contracts of the crates above; and areas that are filled and copied.
+// Small definitions over lists and numbers, with their laws, for the contracts of the crates above.
 #![tactic(auto)]
 
-pub mod copy;
 pub mod fill;
 pub mod store;

@@ -6,9 +6,7 @@ pub fn store_bytes(value: u8, list: &[u32], area: &mut [u8])
     requires { (i : ℕ) → i < length list.now → get_or list.now i 0 < length area.old }
     ensures { area.new ≡ stored value list.now area.old }
 {
-    let mut i = 0;
-    while i < list.len() {
-        area[list[i] as usize] = value;
-        i = i + 1;
+    for place in list {
+        area[*place as usize] = value;
     }
 }

@@ -6,10 +6,10 @@ use Rattle.lists.specs.Packed.{packed}
 use Rattle.lists.specs.Range.{range}
 use Rattle.lists.proofs.Below.{both}
 use Rattle.lists.proofs.KeepLoop.{keep_range_in, keep_range_out}
-use Rattle.lists.proofs.KeepTests.{keep_same}
-use Rattle.filter.specs.Filter.{asks_nothing, no_filter}
+use Rattle.filter.specs.Filter.{asks_nothing}
+use Rattle.filter.specs.declared.StaticFilter.{StaticFilter}
 use Rattle.filter.proofs.FilterLaws.{all_pass}
-use Rattle.matching.specs.Matched.{Matching, takes, takes_module, name_of, key_at, taking_part, keys_of, named_only}
+use Rattle.matching.specs.Matched.{Matching, takes, takes_module, name_of, key_at, taking_part, keys_of}
 use Rattle.matching.proofs.Writing.{map_snoc}
 
 -- those of the first i places
@@ -44,20 +44,7 @@ module _ (g : Matching) (order : List ℕ) (i : ℕ) where
   unfolding keys_below keys_of taking_part
   keys_all e = ap (λ (n : ℕ). map (key_at g order) (keep (λ p. takes_module g (get_or order p 0)) (range 0 n))) e
 
--- ---- a group that asks nothing more of a module than a name
-
--- a name is enough to take part
-pub takes_by_name : (g : Matching) (m : ℕ) → asks_nothing g.filter ≡ true → takes_module g m ≡ leb 2 (get_or g.answers m 0)
-unfolding takes_module takes
-takes_by_name g m e = rw (all_pass g.filter e (get_or g.tags m 0) (get_or g.sizes m 0) (get_or g.shares m 0)) (and-true _)
-
-pub nothing_asked : asks_nothing no_filter ≡ true
-unfolding asks_nothing
-nothing_asked = refl
-
--- so what else the group reads changes nothing
-pub named_keys : (g : Matching) (order : List ℕ) → asks_nothing g.filter ≡ true → keys_of (named_only g.answers) order ≡ keys_of g order
-unfolding keys_of taking_part key_at
-named_keys g order e =
-    ap (map (key_at g order))
-    (keep_same _ _ (range 0 (length order)) (λ i m. takes_by_name (named_only g.answers) (get_or order i 0) nothing_asked ∙ sym (takes_by_name g (get_or order i 0) e)))
+-- a name is enough to take part where the filter asks nothing
+pub takes_by_name : (filter : StaticFilter) (answer tags size shares : ℕ) → asks_nothing filter ≡ true → takes filter answer tags size shares ≡ leb 2 answer
+unfolding takes
+takes_by_name filter answer tags size shares e = rw (all_pass filter e tags size shares) (and-true _)

@@ -1,9 +1,9 @@
 -- "Each eligible module that matches, passes the filter and has a name": those of one group, by name.
-use Rattle.std.specs.Prelude.{◌≡◌, ℕ, ◌-◌, ◌^◌, ◌<◌, ◌≤◌, Bool, ◌&&◌, ◌≢◌, List, [], map, length, nat_le, slice_index, slice_index_or}
+use Rattle.std.specs.Prelude.{◌≡◌, ℕ, ◌-◌, ◌^◌, ◌<◌, ◌≤◌, Bool, ◌&&◌, ◌≢◌, List, map, length, nat_le, slice_index, slice_index_or}
 use Rattle.lists.specs.Keep.{keep}
 use Rattle.lists.specs.Packed.{packed, key_of}
 use Rattle.lists.specs.Range.{range}
-use Rattle.filter.specs.Filter.{passes, no_filter}
+use Rattle.filter.specs.Filter.{passes}
 use Rattle.filter.specs.declared.StaticFilter.{StaticFilter}
 
 -- what a group reads: its filter, its answer for each module, and the modules' tags, sizes and share counts
@@ -42,10 +42,6 @@ unfoldable pub keys_of : Matching → List ℕ → List ℕ
 unfolding key_at taking_part
 keys_of g order = map (key_at g order) (taking_part g order)
 
--- a group that asks nothing more of a module than a name
-abbrev pub named_only : List ℕ → Matching
-named_only answers = record { filter = no_filter; answers = answers; tags = []; sizes = []; shares = [] }
-
 -- the module at a place can be asked for
 pub record Readable (g : Matching) (m : ℕ) : Type 0 where
   pub answered : m < length g.answers
@@ -59,13 +55,6 @@ pub record Readable (g : Matching) (m : ℕ) : Type 0 where
 pub record Matchable (g : Matching) (order area : List ℕ) : Type 0 where
   pub few : length order ≤ 4096
   pub readable : (i : ℕ) → i < length order → Readable g (slice_index order i)
-  pub room : length order ≤ length area
-
--- each module of the order has an answer, and there is room for all of them
-pub record Nameable (answers order area : List ℕ) : Type 0 where
-  pub few : length order ≤ 4096
-  pub answered : (i : ℕ) → i < length order → slice_index order i < length answers
-  pub name : (i : ℕ) → i < length order → slice_index answers (slice_index order i) < 65537
   pub room : length order ≤ length area
 
 -- numbers of one key stand together

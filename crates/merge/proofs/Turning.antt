@@ -1,6 +1,6 @@
 -- One turn of the engine, and the turns one after the other: from the state after a turn the rest of the merge is the same.
 use Prim.Native.Nat.{ℕ, zero, suc, ◌*◌, ◌-◌, ◌/◌, ◌^◌, ◌<◌, ◌≤◌}
-use mathlib.Core.Bool.{true, false, not, cond, true≢false, false≢true}
+use mathlib.Core.Bool.{true, false, not, true≢false, false≢true}
 use mathlib.Core.List.{List, ◌++◌, map, Memᴰ}
 use mathlib.Core.Option.{none, some}
 use mathlib.Core.Path.{◌≡◌, refl, sym, ap, ◌∙◌, subst}
@@ -9,17 +9,18 @@ use lib.Dec.{eqb}
 use lib.Ieee.{Float}
 use lib.ListN.{length, get_or, take, drop}
 use lib.Seq.{length-take-le, take-append-le}
+use Rattle.std.specs.Prelude.{Option, None, Some}
 use Rattle.lists.specs.Keep.{keep}
 use Rattle.lists.specs.Least.{least}
 use Rattle.lists.proofs.Distinct.{Distinct}
 use Rattle.lists.proofs.Members.{keep_mem}
 use Rattle.lists.proofs.Position.{get_or_mem}
 use Rattle.joins.specs.Subgroup.{Subgroup, seeks, smaller, nearer}
+use Rattle.joins.specs.declared.candidate.Candidate.{Candidate}
 use Rattle.joins.specs.Candidate.{seeking, comes_first, seeker_at, target_at, Exact}
 use Rattle.seeking.specs.Listed.{Ascends, FirstWords, Removed, Rewritten}
 use Rattle.seeking.specs.Search.{found_of, Readable, Searchable}
 use Rattle.seeking.specs.Seekers.{first_seeker, Heads, Refreshed}
-use Rattle.seeking.specs.declared.search.Best.{Best}
 use Rattle.seeking.proofs.Beside.{first_words_removed, first_words_rewritten}
 use Rattle.seeking.proofs.Removing.{but_one, without_number}
 use Rattle.seeking.proofs.Blocks.{first_of_heads}
@@ -33,13 +34,11 @@ use Rattle.merge.proofs.Listing.{listed_distinct, listed_ascends, left_ascends, 
 use Rattle.merge.proofs.Refreshing.{first_listed, heads_after}
 use Rattle.merge.proofs.Finding.{seeker_found, no_seeker_found, target_found, no_target_found}
 
-found_none : (b : Best) → b.found ≡ false → found_of b ≡ none
-unfolding found_of
-found_none b e = ap (λ f. cond f (some b.candidate) none) e
+found_none : (b : Option Candidate) → b ≡ None → found_of b ≡ none
+found_none b e = ap found_of e
 
-found_one : (b : Best) → b.found ≡ true → found_of b ≡ some b.candidate
-unfolding found_of
-found_one b e = ap (λ f. cond f (some b.candidate) none) e
+found_one : (b : Option Candidate) (x : Candidate) → b ≡ Some x → found_of b ≡ some x
+found_one b x e = ap found_of e
 
 -- sizes that are looked through are doubles, and at most 4,096
 pub sizes_fit_all : (numbers sizes bits : List ℕ) → Sound numbers sizes bits → Exact sizes × (length sizes ≤ 4096)
@@ -68,21 +67,21 @@ module _ (threshold : Float) (numbers sizes bits there heads : List ℕ) (sound 
   reads_heads = record { inside = λ j h. (stand.stand j h).inside; exact = sizes_exact }
 
   -- what the search for a seeker found
-  module _ (b : Best) (is_b : found_of b ≡ least comes_first (keep (seeking threshold) (map (seeker_at sizes) heads))) where
+  module _ (b : Option Candidate) (is_b : found_of b ≡ least comes_first (keep (seeking threshold) (map (seeker_at sizes) heads))) where
     among : found_of b ≡ least comes_first (keep (seeking threshold) (map (seeker_at sizes) (listed numbers)))
     unfolding first_seeker
     among = is_b ∙ first_of_heads threshold sizes sizes_exact heads stand ∙ first_listed threshold numbers sizes bits sound
 
-    pub turn_without_seeker : b.found ≡ false → (words : List ℕ) → Turn threshold false numbers sizes bits there numbers sizes bits there words heads
+    pub turn_without_seeker : b ≡ None → (words : List ℕ) → Turn threshold false numbers sizes bits there numbers sizes bits there words heads
     turn_without_seeker e =
         stands (no_seeker threshold (there_in numbers sizes bits) (no_seeker_found sizes bits numbers threshold (sym among ∙ found_none b e))) there
 
-    module _ (e : b.found ≡ true) where
+    module _ (x : Candidate) (e : b ≡ Some x) where
       abbrev from : ℕ
-      from = b.candidate.number
+      from = x.number
 
       seeker : least smaller (keep (seeks threshold) (there_in numbers sizes bits)) ≡ some (subgroup_at sizes bits from)
-      seeker = seeker_found sizes bits numbers threshold b.candidate (sym among ∙ found_one b e)
+      seeker = seeker_found sizes bits numbers threshold x (sym among ∙ found_one b x e)
 
       pub seeker_stands : Standing numbers sizes bits (subgroup_at sizes bits from)
       seeker_stands = (seeker_is threshold (there_in numbers sizes bits) (subgroup_at sizes bits from) seeker (Standing numbers sizes bits) (standing numbers sizes bits)).0
@@ -126,21 +125,21 @@ module _ (threshold : Float) (numbers sizes bits there heads : List ℕ) (sound 
         }
 
         -- what the search for its target found
-        module _ (d : Best) (is-d : found_of d ≡ least comes_first (map (target_at sizes bits s.bits) left)) where
+        module _ (d : Option Candidate) (is-d : found_of d ≡ least comes_first (map (target_at sizes bits s.bits) left)) where
           among_left : found_of d ≡ least comes_first (map (target_at sizes bits s.bits) (but_one s.number (listed numbers)))
           among_left = is-d ∙ ap (λ l. least comes_first (map (target_at sizes bits s.bits) l)) left_is
 
-          pub turn_without_target : d.found ≡ false → (l words : List ℕ) → Turn threshold false numbers sizes bits there numbers sizes bits l words heads
+          pub turn_without_target : d ≡ None → (l words : List ℕ) → Turn threshold false numbers sizes bits there numbers sizes bits l words heads
           turn_without_target q l words =
               stands (no_target threshold (there_in numbers sizes bits) s s_found
               (no_target_found sizes bits numbers threshold s s_found (sym among_left ∙ found_none d q))) l words
 
-          module _ (q : d.found ≡ true) where
+          module _ (y : Candidate) (q : d ≡ Some y) where
             abbrev to : ℕ
-            to = d.candidate.number
+            to = y.number
 
             target : least (nearer s) (others s (there_in numbers sizes bits)) ≡ some (subgroup_at sizes bits to)
-            target = target_found sizes bits numbers threshold s s_found d.candidate (sym among_left ∙ found_one d q)
+            target = target_found sizes bits numbers threshold s s_found y (sym among_left ∙ found_one d y q)
 
             pub target_row : InRow sizes bits to × (get_or sizes to 0 ≤ 2 ^ 53)
             unfolding subgroup_at

@@ -1,15 +1,15 @@
 -- The call Merge, refusals included.
-use Rattle.std.specs.Prelude.{ℕ, ◌*◌, ◌≤◌, ◌||◌, List, [], ◌∷◌, ◌++◌, ◌≡◌, ltb, Float, length, drop}
+use Rattle.std.specs.Prelude.{ℕ, ◌*◌, ◌≤◌, ◌||◌, List, [], ◌∷◌, ◌++◌, ◌≡◌, ltb, Float, length, drop, Result}
 use Rattle.std.specs.Float.Ieee.{is_nan}
-use Rattle.refusal.specs.Outcome.{Outcome, refused, accepted, Test, test, outcome}
+use Rattle.refusal.specs.Outcome.{Outcome, Test, test, outcome}
+use Rattle.refusal.specs.Answers.{outcome_of}
+use Rattle.refusal.specs.declared.Refusal.{Refusal}
 use Rattle.refusal.specs.Call.{Call, whole}
 use Rattle.refusal.specs.Counts.{module_limit, entry_limit, bad_length}
 use Rattle.lists.specs.Sum.{sum}
 use Rattle.whole.specs.Total.{total_limit, total_exceeds}
 use Rattle.bitset.specs.Entries.{any_beyond}
 use Rattle.merge.specs.Tables.{merge_of, final_sizes, final_bits}
-use Rattle.merge.specs.declared.MergeAnswer.{MergeAnswer}
-use Rattle.merge.specs.declared.MergeAnswer.TheVariants.{Refused, Done}
 
 -- What a merge is handed: the counts k and E, the sizes, the entry bits (four words a subgroup) and the threshold.
 pub record Given : Type 0 where
@@ -42,11 +42,6 @@ unfoldable pub merge_outcome : Given → Areas → Outcome Unit
 unfolding merge_tests outcome
 merge_outcome g a = outcome (merge_tests g a) tt
 
--- the number of each case of the answer
-abbrev pub outcome_of : MergeAnswer → Outcome Unit
-outcome_of (Refused n) = refused n
-outcome_of Done = accepted tt
-
 -- what an accepted merge leaves; entries past k are as they were
 unfoldable pub written : Given → Areas → Areas
 unfolding merge_of final_sizes final_bits
@@ -69,5 +64,5 @@ pub record Ready (k : ℕ) (sizes bits : List ℕ) (areas : Areas) : Type 0 wher
   pub bits_room : 4 * k ≤ length areas.bits
 
 -- the call: its answer, and the content of the lent areas after it
-abbrev pub MergeCall : Given → MergeAnswer → Areas → Areas → Type 0
+abbrev pub MergeCall : Given → Result Unit Refusal → Areas → Areas → Type 0
 MergeCall g answer before after = Call whole (merge_outcome g before) (outcome_of answer) before after (λ _. after ≡ written g before)

@@ -6,10 +6,7 @@ ghost use Rattle.refusal.specs.Counts.{module_limit, entry_limit};
 pub fn counts_exceed(k: usize, entries: usize) -> bool
     ensures { result ≡ (ltb module_limit k || ltb entry_limit entries) }
 {
-    if refusal::MODULE_LIMIT < k {
-        return true;
-    }
-    refusal::ENTRY_LIMIT < entries
+    refusal::MODULE_LIMIT < k || refusal::ENTRY_LIMIT < entries
 }
 
 // Refusal 2: a table whose length is not the one that k implies.
@@ -17,10 +14,7 @@ pub fn lengths_differ(k: usize, sizes: usize, bits: usize) -> bool
     requires { k ≤ module_limit }
     ensures { result ≡ (not (eqb sizes k) || not (eqb bits (4 * k))) }
 {
-    if sizes != k {
-        return true;
-    }
-    bits != 4 * k
+    sizes != k || bits != 4 * k
 }
 
 // Refusal 12: an output area with less than k entries.
@@ -28,11 +22,5 @@ pub fn areas_short(k: usize, numbers: usize, sizes: usize, bits: usize) -> bool
     requires { k ≤ module_limit }
     ensures { result ≡ (ltb numbers k || (ltb sizes k || ltb bits (4 * k))) }
 {
-    if numbers < k {
-        return true;
-    }
-    if sizes < k {
-        return true;
-    }
-    bits < 4 * k
+    numbers < k || sizes < k || bits < 4 * k
 }

@@ -50,19 +50,17 @@ fn join_next(
     ensures { Turn threshold result numbers.old sizes.old bits.old there.old
         numbers.new sizes.new bits.new there.new words.new heads.new }
 {
-    let seeker = find_seeker(heads, sizes, threshold);
-    if !seeker.found {
+    let Some(seeker) = find_seeker(heads, sizes, threshold) else {
         return false;
-    }
-    let from = seeker.candidate.number;
+    };
+    let from = seeker.number;
     let joining = subgroup_at(sizes, bits, from);
     remove(there, words, from as u32);
     let left = there.len() - 1;
-    let target = find_target(&there[..left], words, sizes, bits, joining.bits);
-    if !target.found {
+    let Some(target) = find_target(&there[..left], words, sizes, bits, joining.bits) else {
         return false;
-    }
-    let to = target.candidate.number;
+    };
+    let to = target.number;
     let joined = subgroup_at(sizes, bits, to);
     join(numbers, sizes, bits, joining, joined);
     rewrite_word(words, &there[..left], bits, to);
@@ -91,8 +89,7 @@ fn join_all(
     lists::fill::fill_range(there);
     fill_words(words, bits);
     fill_heads(heads, sizes, threshold);
-    let mut left = there.len();
-    while 0 < left {
+    for left in (1..=there.len()).rev() {
         if !join_next(
             numbers,
             sizes,
@@ -104,43 +101,26 @@ fn join_all(
         ) {
             return;
         }
-        left = left - 1;
     }
 }
 
-// Few subgroups get short tables, which cost less to clear.
-fn join_few(numbers: &mut [u32], sizes: &mut [u64], bits: &mut [u64], threshold: f64)
-    requires { Sound numbers.old sizes.old bits.old × (numbers.old ≡ range 0 (length numbers.old)) × (length numbers.old ≤ 1024) }
+// All joins of at most N subgroups, with tables on the stack for N of them and for their blocks of 16.
+fn join_within<const N: usize, const BLOCKS: usize>(
+    numbers: &mut [u32],
+    sizes: &mut [u64],
+    bits: &mut [u64],
+    threshold: f64,
+)
+    requires { Sound numbers.old sizes.old bits.old × (numbers.old ≡ range 0 (length numbers.old))
+        × (length numbers.old ≤ N) × (N ≡ 16 * BLOCKS) × (N ≤ 4096) }
     ensures { Turns threshold numbers.old sizes.old bits.old
         numbers.new sizes.new bits.new }
 {
     let count = numbers.len();
     let blocks = (count + 15) / 16;
-    let mut there = [0u32; 1024];
-    let mut words = [0u64; 1024];
-    let mut heads = [0u32; 64];
-    join_all(
-        numbers,
-        sizes,
-        bits,
-        &mut there[..count],
-        &mut words[..count],
-        &mut heads[..blocks],
-        threshold,
-    );
-}
-
-// Tables for as many subgroups as there can be.
-fn join_many(numbers: &mut [u32], sizes: &mut [u64], bits: &mut [u64], threshold: f64)
-    requires { Sound numbers.old sizes.old bits.old × (numbers.old ≡ range 0 (length numbers.old)) }
-    ensures { Turns threshold numbers.old sizes.old bits.old
-        numbers.new sizes.new bits.new }
-{
-    let count = numbers.len();
-    let blocks = (count + 15) / 16;
-    let mut there = [0u32; 4096];
-    let mut words = [0u64; 4096];
-    let mut heads = [0u32; 256];
+    let mut there = [0u32; N];
+    let mut words = [0u64; N];
+    let mut heads = [0u32; BLOCKS];
     join_all(
         numbers,
         sizes,
@@ -164,10 +144,11 @@ pub fn merge_in_place(numbers: &mut [u32], sizes: &mut [u64], bits: &mut [u64], 
         return;
     }
     if 0.0 < threshold {
+        // Short tables cost less to clear.
         if numbers.len() <= 1024 {
-            join_few(numbers, sizes, bits, threshold);
+            join_within::<1024, 64>(numbers, sizes, bits, threshold);
         } else {
-            join_many(numbers, sizes, bits, threshold);
+            join_within::<4096, 256>(numbers, sizes, bits, threshold);
         }
     }
 }

@@ -8,13 +8,8 @@ pub mod tables;
 ghost use Rattle.std.specs.Prelude.{◌≡◌, ℕ};
 ghost use Rattle.merge.specs.Call.{written, Ready, MergeCall};
 
-use lists::copy::copy_numbers;
-
-#[derive(Clone, Copy)]
-pub enum MergeAnswer {
-    Refused(u32),
-    Done,
-}
+use copying::copy;
+use refusal::Refusal;
 
 // The tests have passed: the tables are copied into the areas, and merged there. Entries past k stay.
 fn merge_into(
@@ -44,8 +39,8 @@ fn merge_into(
     }) }
 {
     let words = 4 * k;
-    copy_numbers(sizes, &mut final_sizes[..k]);
-    copy_numbers(bits, &mut final_bits[..words]);
+    copy(sizes, &mut final_sizes[..k]);
+    copy(bits, &mut final_bits[..words]);
     engine::merge_in_place(
         &mut final_numbers[..k],
         &mut final_sizes[..k],
@@ -64,7 +59,7 @@ pub fn merge_entries_aware_subgroups(
     final_numbers: &mut [u32],
     final_sizes: &mut [u64],
     final_bits: &mut [u64],
-) -> MergeAnswer
+) -> Result<(), Refusal>
     ensures { MergeCall (record {
       k = k;
       entries = entries;
@@ -82,22 +77,22 @@ pub fn merge_entries_aware_subgroups(
     }) }
 {
     if conditions::counts_exceed(k, entries) {
-        return MergeAnswer::Refused(refusal::COUNT);
+        return Err(Refusal::Count);
     }
     if conditions::lengths_differ(k, sizes.len(), bits.len()) {
-        return MergeAnswer::Refused(refusal::LENGTH);
+        return Err(Refusal::Length);
     }
     if whole::total_exceeds(sizes) {
-        return MergeAnswer::Refused(refusal::TOTAL);
+        return Err(Refusal::Total);
     }
     if limit::is_nan(threshold) {
-        return MergeAnswer::Refused(refusal::NAN);
+        return Err(Refusal::Nan);
     }
     if bitset::table::any_bit_from(bits, k, entries) {
-        return MergeAnswer::Refused(refusal::BIT);
+        return Err(Refusal::Bit);
     }
     if conditions::areas_short(k, final_numbers.len(), final_sizes.len(), final_bits.len()) {
-        return MergeAnswer::Refused(refusal::AREA);
+        return Err(Refusal::Area);
     }
     merge_into(
         k,
@@ -108,5 +103,5 @@ pub fn merge_entries_aware_subgroups(
         final_sizes,
         final_bits,
     );
-    MergeAnswer::Done
+    Ok(())
 }

@@ -38,19 +38,14 @@ pub fn store(sizes: &mut [u64], bits: &mut [u64], s: Subgroup)
 fn renamed(n: u32, from: u32, to: u32) -> u32
     ensures { result ≡ renamed from to n }
 {
-    if n == from {
-        return to;
-    }
-    n
+    if n == from { to } else { n }
 }
 
 // Whatever had the number `from` gets `to`.
 pub fn rename(numbers: &mut [u32], from: u32, to: u32)
     ensures { numbers.new ≡ map (renamed from to) numbers.old }
 {
-    let mut i = 0;
-    while i < numbers.len() {
-        numbers[i] = renamed(numbers[i], from, to);
-        i = i + 1;
+    for number in numbers.iter_mut() {
+        *number = renamed(*number, from, to);
     }
 }

@@ -1,5 +1,5 @@
 -- The names of a table from name k on, as the loops over them meet them.
-use Prim.Native.Nat.{ℕ, suc, ◌+◌, ◌≤◌, ◌<◌}
+use Prim.Native.Nat.{ℕ, suc, ◌+◌, ◌-◌, ◌≤◌, ◌<◌}
 use mathlib.Core.Bool.{Bool, false, not, ◌||◌}
 use mathlib.Core.List.{List, [], ◌∷◌}
 use mathlib.Core.Path.{◌≡◌, ap, ◌∙◌}
@@ -57,3 +57,11 @@ module _ (count : ℕ) (bytes offsets : List ℕ) where
       → unordered (drop k names) ≡ (not b || unordered (drop (k + 1) names))
   unfolding unordered
   one_pair b k h e = rw (from_name k (omega arith), from_name (k + 1) h, e)
+
+  -- the same of name k and the name before it
+  pub pair_before : (b : Bool) (k : ℕ) → 1 ≤ k → k < count → before (name_at bytes offsets (k - 1)) (name_at bytes offsets k) ≡ b
+      → unordered (drop (k - 1) names) ≡ (not b || unordered (drop (k + 1 - 1) names))
+  pair_before b k h l e =
+      let at : k - 1 + 1 ≡ k = omega arith in
+      let more : k + 1 - 1 ≡ k - 1 + 1 = omega arith in
+      rw more (one_pair b (k - 1) (omega arith) (rw at e))

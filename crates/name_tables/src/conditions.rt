@@ -8,12 +8,10 @@ pub fn any_not_utf8(count: usize, bytes: &[u8], offsets: &[u32]) -> bool
     requires { NameTable count bytes.now offsets.now }
     ensures { result ≡ any_not_utf8 (names_of count bytes.now offsets.now) }
 {
-    let mut k = 0;
-    while k < count {
+    for k in 0..count {
         if !utf8::text::is_utf8(crate::name_at(bytes, offsets, k)) {
             return true;
         }
-        k = k + 1;
     }
     false
 }
@@ -23,13 +21,11 @@ pub fn unordered_names(count: usize, bytes: &[u8], offsets: &[u32]) -> bool
     requires { NameTable count bytes.now offsets.now }
     ensures { result ≡ unordered (names_of count bytes.now offsets.now) }
 {
-    let mut k = 0;
-    while k + 1 < count {
-        let name = crate::name_at(bytes, offsets, k);
-        if !ids::order::id_before(name, crate::name_at(bytes, offsets, k + 1)) {
+    for k in 1..count {
+        let name = crate::name_at(bytes, offsets, k - 1);
+        if !ids::order::id_before(name, crate::name_at(bytes, offsets, k)) {
             return true;
         }
-        k = k + 1;
     }
     false
 }

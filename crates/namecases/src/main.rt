@@ -6,25 +6,32 @@
 
 mod answers;
 mod chunk;
-mod lines;
 mod naming;
 mod spoiling;
 mod tables;
 
-fn read_input(input: &mut [u8; 262144]) -> usize {
-    io::read_full(0, input)
-}
+use std::alloc::AllocError;
+use textform::out;
+use textform::reading::Words;
+use withlines::cases;
 
-fn answer_input(input: &[u8; 262144], n: usize) {
-    lines::answer_all(textform::entries::bytes(input, n));
-}
-
-fn main() {
-    let mut input = [0u8; 262144];
-    let n = read_input(&mut input);
-    if n == 262144 {
-        textform::out::text(b"! input\n");
-        return;
+// Runs a case, given the lines before it that spoil it. Nothing if it can't be read, or is beyond the limits.
+fn answer(mut words: Words, with: &[&[u8]]) -> Option<()> {
+    let call = words.next()?;
+    let tag = words.next()?;
+    match call {
+        b"name" => naming::answer(tag, words, with),
+        _ => None,
     }
-    answer_input(&input, n);
+}
+
+fn main(rt: HostRuntime) -> Result<(), AllocError> {
+    let alloc = rt.alloc();
+    let mut input = vec![in alloc; 0u8; 262144]?;
+    let n = io::read_full(0, &mut input);
+    if n == input.len() {
+        out::text(b"! input\n");
+        return Ok(());
+    }
+    cases::answer_all(alloc, &input[..n], answer)
 }

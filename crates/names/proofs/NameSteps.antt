@@ -27,8 +27,8 @@ use Rattle.settling.specs.Modules.{Passed}
 use Rattle.settling.specs.Settled.{settled}
 use Rattle.settling.specs.Traversal.{in_turn, names_of, items_of, after_name}
 use Rattle.settling.proofs.LoopSteps.{name_more}
-use Rattle.emitting.specs.Emitted.{Work, HasEntry}
-use Rattle.emitting.proofs.Chunk.{SameLengths, same_lengths, lengths_kept}
+use Rattle.emitting.specs.Emitted.{Work, HasEntry, SameLengths}
+use Rattle.emitting.proofs.Chunk.{same_lengths, lengths_kept}
 use Rattle.items.specs.Turn.{Tables}
 use Rattle.running.specs.Fits.{ItemFits, Walking}
 use Rattle.running.specs.State.{Advance, Begun}

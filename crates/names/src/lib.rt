@@ -7,16 +7,19 @@ ghost use Rattle.grouping.specs.WorkList.{items_of_set};
 ghost use Rattle.settling.specs.Traversal.{in_turn};
 ghost use Rattle.closed.specs.Closed.{Closed};
 ghost use Rattle.names.specs.Turn.{SetOffered, SetTaken, NamesTurning, NamesRoom, NamesTurned};
+ghost use Rattle.emitting.specs.Emitted.{work, SameAreas};
 
 use bitset::entries::BitSet;
 use closed::{build_left, can_close, close_set};
+use emitting::ChunkAreas;
 use emitting::emit::Head;
 use entries_aware::convert_subgroups;
+use ids::parts::Ids;
 use index::ChunkIdx;
 use items::convert::{Limits, convert_item_to_chunks};
-use lists::fill::clear_bytes;
 use matching::matched::run_end;
 use options::Settings;
+use records::Records;
 
 // One set turned into chunks: an item, or its subgroups. A set that is one item may lack modules that have a chunk.
 fn convert_set(
@@ -27,60 +30,33 @@ fn convert_set(
     n: usize,
     sizes: &[u64],
     bits: &[u64],
-    bytes: &[u8],
-    offsets: &[u32],
+    ids: &Ids,
     rank: &[u32],
     number: ChunkIdx,
     at: usize,
     scratch: &mut [u32],
-    chunk_of: &mut [u32],
-    group_of: &mut [u32],
-    name_of: &mut [u32],
-    size_of: &mut [f64],
-    bits_of: &mut [u64],
-    mark_of: &mut [u8],
+    areas: &mut ChunkAreas,
 ) -> usize
     requires set_offered { SetOffered (record {
-      bytes = bytes.now;
-      offsets = offsets.now;
+      bytes = ids.now.bytes.now;
+      offsets = ids.now.offsets.now;
       sizes = sizes.now;
       rank = rank.now;
-    }) bits.now settings.entries_aware number.0 at (record {
-      chunk_of = chunk_of.old;
-      group_of = group_of.old;
-      name_of = name_of.old;
-      size_of = size_of.old;
-      bits_of = bits_of.old;
-      mark_of = mark_of.old;
-    }) set.now }
+    }) bits.now settings.entries_aware number.0 at (work areas.old) set.now }
     requires set_len_bound { (length set.now ≤ n) × (n ≤ 4096) × (3 * n ≤ length scratch.old) }
     ensures set_taken { SetTaken (record {
-      bytes = bytes.now;
-      offsets = offsets.now;
+      bytes = ids.now.bytes.now;
+      offsets = ids.now.offsets.now;
       sizes = sizes.now;
       rank = rank.now;
     }) bits.now settings.entries_aware set.now
-        (λ tree places. in_turn tree (items_of_set settings.entries_aware settings group name tree places)) number.0 at result (record {
-          chunk_of = chunk_of.old;
-          group_of = group_of.old;
-          name_of = name_of.old;
-          size_of = size_of.old;
-          bits_of = bits_of.old;
-          mark_of = mark_of.old;
-        }) (record {
-          chunk_of = chunk_of.new;
-          group_of = group_of.new;
-          name_of = name_of.new;
-          size_of = size_of.new;
-          bits_of = bits_of.new;
-          mark_of = mark_of.new;
-        }) }
+        (λ tree places. in_turn tree (items_of_set settings.entries_aware settings group name tree places)) number.0 at result (work areas.old) (work areas.new) }
     ensures scratch_len_unchanged { length scratch.new ≡ length scratch.old }
+    ensures same { SameAreas areas.old areas.new }
 {
     if settings.entries_aware {
         return convert_subgroups(
-            settings, group, name, set, n, sizes, bits, bytes, offsets, rank, number, at, scratch,
-            chunk_of, group_of, name_of, size_of, bits_of, mark_of,
+            settings, group, name, set, n, sizes, bits, ids, rank, number, at, scratch, areas,
         );
     }
     let maximum = settings.max_size;
@@ -100,18 +76,12 @@ fn convert_set(
         set,
         sizes,
         bits,
-        bytes,
-        offsets,
+        ids,
         rank,
         number,
         at,
         &mut scratch[n..2 * n],
-        chunk_of,
-        group_of,
-        name_of,
-        size_of,
-        bits_of,
-        mark_of,
+        areas,
     )
 }
 
@@ -123,15 +93,12 @@ pub fn convert_names(
     matched: &[u32],
     n: usize,
     flags: &[u8],
-    first: &[u32],
-    dependency: &[u32],
-    next: &[u32],
+    records: &Records,
     order: &[u32],
     place: &[u32],
     sizes: &[u64],
     bits: &[u64],
-    bytes: &[u8],
-    offsets: &[u32],
+    ids: &Ids,
     rank: &[u32],
     number: ChunkIdx,
     at: usize,
@@ -140,65 +107,40 @@ pub fn convert_names(
     followed: &mut [u8],
     set: &mut [u32],
     scratch: &mut [u32],
-    chunk_of: &mut [u32],
-    group_of: &mut [u32],
-    name_of: &mut [u32],
-    size_of: &mut [f64],
-    bits_of: &mut [u64],
-    mark_of: &mut [u8],
+    areas: &mut ChunkAreas,
 ) -> usize
     requires names_turning { NamesTurning (record {
-      bytes = bytes.now;
-      offsets = offsets.now;
+      bytes = ids.now.bytes.now;
+      offsets = ids.now.offsets.now;
       sizes = sizes.now;
       rank = rank.now;
     }) (record {
       flags = flags.now;
-      first = first.now;
-      dependency = dependency.now;
-      next = next.now;
+      first = records.now.first.now;
+      dependency = records.now.dependency.now;
+      next = records.now.next.now;
       order = order.now;
-    }) bits.now settings group matched.now number.0 at (record {
-      chunk_of = chunk_of.old;
-      group_of = group_of.old;
-      name_of = name_of.old;
-      size_of = size_of.old;
-      bits_of = bits_of.old;
-      mark_of = mark_of.old;
-    }) }
+    }) bits.now settings group matched.now number.0 at (work areas.old) }
     requires names_room { NamesRoom n flags.now order.now place.now marks.old followed.old set.old scratch.old
-        × Closed flags.now first.now dependency.now next.now closed.old chunk_of.old }
+        × Closed flags.now records.now.first.now records.now.dependency.now records.now.next.now closed.old areas.old.chunk_of.now }
     ensures names_turned { NamesTurned (record {
-      bytes = bytes.now;
-      offsets = offsets.now;
+      bytes = ids.now.bytes.now;
+      offsets = ids.now.offsets.now;
       sizes = sizes.now;
       rank = rank.now;
     }) (record {
       flags = flags.now;
-      first = first.now;
-      dependency = dependency.now;
-      next = next.now;
+      first = records.now.first.now;
+      dependency = records.now.dependency.now;
+      next = records.now.next.now;
       order = order.now;
-    }) bits.now settings group matched.now number.0 at result (record {
-      chunk_of = chunk_of.old;
-      group_of = group_of.old;
-      name_of = name_of.old;
-      size_of = size_of.old;
-      bits_of = bits_of.old;
-      mark_of = mark_of.old;
-    }) (record {
-      chunk_of = chunk_of.new;
-      group_of = group_of.new;
-      name_of = name_of.new;
-      size_of = size_of.new;
-      bits_of = bits_of.new;
-      mark_of = mark_of.new;
-    }) }
+    }) bits.now settings group matched.now number.0 at result (work areas.old) (work areas.new) }
     ensures marks_len_unchanged { (length marks.new ≡ length marks.old) × (length set.new ≡ length set.old)
         × (length scratch.new ≡ length scratch.old) × (followed.new ≡ unfollowed)
-        × Closed flags.now first.now dependency.now next.now closed.new chunk_of.new }
+        × Closed flags.now records.now.first.now records.now.dependency.now records.now.next.now closed.new areas.new.chunk_of.now }
+    ensures same { SameAreas areas.old areas.new }
 {
-    clear_bytes(marks);
+    marks.fill(0);
     let closing = can_close(settings);
     let mut made = 0;
     let mut from = 0;
@@ -209,9 +151,7 @@ pub fn convert_names(
             settings.recursive,
             flags,
             closed,
-            first,
-            dependency,
-            next,
+            records,
             order,
             place,
             &matched[from..to],
@@ -220,28 +160,24 @@ pub fn convert_names(
             followed,
             set,
         );
-        made = made
-            + convert_set(
-                settings,
-                group,
-                matched[from] / 4096,
-                &set[..count],
-                n,
-                sizes,
-                bits,
-                bytes,
-                offsets,
-                rank,
-                ChunkIdx(number.0 + made as u32),
-                at + made,
-                scratch,
-                chunk_of,
-                group_of,
-                name_of,
-                size_of,
-                bits_of,
-                mark_of,
-            );
+        // The places of records are below this, so that they can be counted on.
+        let _room = areas.room();
+        made += convert_set(
+            settings,
+            group,
+            matched[from] / 4096,
+            &set[..count],
+            n,
+            sizes,
+            bits,
+            ids,
+            rank,
+            ChunkIdx(number.0 + made as u32),
+            at + made,
+            scratch,
+            areas,
+        );
+        let chunk_of = &mut *areas.chunk_of;
         close_set(closing, &set[..count], chunk_of, closed);
         from = to;
     }

@@ -1,16 +1,12 @@
 -- The groups as flat tables, one entry a group each. A byte says which options a group has: 1 min_size, 2 max_size, 4 min_module_size,
 -- 8 max_module_size, 16 min_share_count, 32 recursion, summed; and 64 recursion on, 128 entries_aware.
-use Rattle.std.specs.Prelude.{ℕ, ◌<◌, Bool, true, false, List, Float, length, get_or}
+use Rattle.std.specs.Prelude.{ℕ, ◌<◌, List, Float, length, get_or}
+use Rattle.std.specs.Bool.{then_some}
 use Rattle.whole.specs.Double.{to_f64}
 use Rattle.bitset.specs.Word.{bit}
-use Rattle.limit.specs.declared.Limit.{Limit}
-use Rattle.limit.specs.declared.Limit.TheVariants as limit
-use Rattle.filter.specs.declared.MinShareCount.{MinShareCount}
-use Rattle.filter.specs.declared.MinShareCount.TheVariants as shares
-use Rattle.options.specs.declared.Recursion.{Recursion}
-use Rattle.options.specs.declared.Recursion.TheVariants as recursion
 use Rattle.options.specs.declared.Options.{Options}
 use Rattle.options.specs.declared.Group.{Group}
+use Rattle.options.specs.declared.tables.Groups.{Groups}
 
 pub record GroupTables : Type 0 where
   pub given : List ℕ
@@ -22,6 +18,21 @@ pub record GroupTables : Type 0 where
   pub tags : List ℕ
   pub priority : List ℕ
   pub threshold : List Float
+
+-- what the tables of groups that are handed in hold
+abbrev pub tables_of : Groups → GroupTables
+tables_of t =
+    record {
+      given = t.given.now;
+      min_size = t.min_size.now;
+      max_size = t.max_size.now;
+      min_module_size = t.min_module_size.now;
+      max_module_size = t.max_module_size.now;
+      min_share_count = t.min_share_count.now;
+      tags = t.tags.now;
+      priority = t.priority.now;
+      threshold = t.threshold.now;
+    }
 
 -- every table has an entry for group g
 pub record HasGroup (t : GroupTables) (g : ℕ) : Type 0 where
@@ -35,30 +46,17 @@ pub record HasGroup (t : GroupTables) (g : ℕ) : Type 0 where
   pub priority_in : g < length t.priority
   pub threshold_in : g < length t.threshold
 
-abbrev pub limit_if : Bool → Float → Limit
-limit_if true x = limit.Given x
-limit_if false x = limit.Absent
-
-abbrev pub shares_if : Bool → ℕ → MinShareCount
-shares_if true x = shares.Given x
-shares_if false x = shares.Absent
-
-abbrev pub recursion_if : Bool → Bool → Recursion
-recursion_if true true = recursion.On
-recursion_if true false = recursion.Off
-recursion_if false on = recursion.Absent
-
 -- the options that a group's byte says it has, of the values that stand in its entries
 unfoldable pub options_by : ℕ → Float → Float → Float → Float → ℕ → Options
 unfolding bit
 options_by b min_size max_size min_module_size max_module_size min_share_count =
     record {
-      min_size = limit_if (bit b 0) min_size;
-      max_size = limit_if (bit b 1) max_size;
-      min_module_size = limit_if (bit b 2) min_module_size;
-      max_module_size = limit_if (bit b 3) max_module_size;
-      min_share_count = shares_if (bit b 4) min_share_count;
-      recursion = recursion_if (bit b 5) (bit b 6);
+      min_size = then_some (bit b 0) min_size;
+      max_size = then_some (bit b 1) max_size;
+      min_module_size = then_some (bit b 2) min_module_size;
+      max_module_size = then_some (bit b 3) max_module_size;
+      min_share_count = then_some (bit b 4) min_share_count;
+      recursion = then_some (bit b 5) (bit b 6);
     }
 
 -- group g

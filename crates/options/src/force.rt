@@ -1,97 +1,47 @@
 // A group's option overrides the global one, and the defaults.
 ghost use Rattle.std.specs.Prelude.{◌≡◌};
-ghost use Rattle.options.specs.Force.{over_limit, over_shares, over_recursion, in_force, min_size_of, recursive, filter_of, settings_under};
+ghost use Rattle.options.specs.Force.{in_force, filter_of, settings_under};
 
-use crate::{Group, Options, Recursion, Settings};
-use filter::{MinShareCount, StaticFilter};
-use limit::Limit;
+use crate::{Group, Options, Settings};
+use filter::StaticFilter;
 
-fn over_limit(own: Limit, global: Limit) -> Limit
-    ensures { result ≡ over_limit own global }
+fn in_force(own: Options, global: Options) -> Options
+    ensures { result ≡ in_force own global }
 {
-    match own {
-        Limit::Absent => global,
-        Limit::Given(limit) => Limit::Given(limit),
-    }
-}
-
-fn over_shares(own: MinShareCount, global: MinShareCount) -> MinShareCount
-    ensures { result ≡ over_shares own global }
-{
-    match own {
-        MinShareCount::Absent => global,
-        MinShareCount::Given(minimum) => MinShareCount::Given(minimum),
-    }
-}
-
-fn over_recursion(own: Recursion, global: Recursion) -> Recursion
-    ensures { result ≡ over_recursion own global }
-{
-    match own {
-        Recursion::Absent => global,
-        Recursion::Off => Recursion::Off,
-        Recursion::On => Recursion::On,
-    }
-}
-
-// An absent minimum is 0.
-fn min_size_of(limit: Limit) -> f64
-    ensures { result ≡ min_size_of limit }
-{
-    match limit {
-        Limit::Absent => 0.0,
-        Limit::Given(size) => size,
-    }
-}
-
-// Recursion is on where nothing is said.
-fn is_recursive(recursion: Recursion) -> bool
-    ensures { result ≡ recursive recursion }
-{
-    match recursion {
-        Recursion::Absent => true,
-        Recursion::Off => false,
-        Recursion::On => true,
+    Options {
+        min_size: own.min_size.or(global.min_size),
+        max_size: own.max_size.or(global.max_size),
+        min_module_size: own.min_module_size.or(global.min_module_size),
+        max_module_size: own.max_module_size.or(global.max_module_size),
+        min_share_count: own.min_share_count.or(global.min_share_count),
+        recursion: own.recursion.or(global.recursion),
     }
 }
 
 // What the static filter of a group is handed.
-fn filter_of(g: Group, global: Options) -> StaticFilter
-    ensures { result ≡ filter_of g (in_force g.options global) }
+fn filter_of(g: Group, force: Options) -> StaticFilter
+    ensures { result ≡ filter_of g force }
 {
-    let own = g.options;
-    let own_min = own.min_module_size;
-    let global_min = global.min_module_size;
-    let own_max = own.max_module_size;
-    let global_max = global.max_module_size;
-    let own_shares = own.min_share_count;
-    let global_shares = global.min_share_count;
     StaticFilter {
         tags: g.tags,
-        min_module_size: over_limit(own_min, global_min),
-        max_module_size: over_limit(own_max, global_max),
-        min_share_count: over_shares(own_shares, global_shares),
+        min_module_size: force.min_module_size,
+        max_module_size: force.max_module_size,
+        min_share_count: force.min_share_count,
     }
 }
 
-// The settings of a group under the global options.
+// The settings of a group under the global options: an absent minimum is 0, and recursion is on where nothing is said.
 pub fn settings_under(global: Options, g: Group) -> Settings
     ensures { result ≡ settings_under global g }
 {
-    let own = g.options;
-    let own_min = own.min_size;
-    let global_min = global.min_size;
-    let own_max = own.max_size;
-    let global_max = global.max_size;
-    let own_recursion = own.recursion;
-    let global_recursion = global.recursion;
+    let force = in_force(g.options, global);
     Settings {
-        filter: filter_of(g, global),
-        recursive: is_recursive(over_recursion(own_recursion, global_recursion)),
+        filter: filter_of(g, force),
+        recursive: force.recursion.unwrap_or(true),
         priority: g.priority,
         entries_aware: g.entries_aware,
         threshold: g.threshold,
-        min_size: min_size_of(over_limit(own_min, global_min)),
-        max_size: over_limit(own_max, global_max),
+        min_size: force.min_size.unwrap_or(0.0),
+        max_size: force.max_size,
     }
 }

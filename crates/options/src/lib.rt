@@ -5,26 +5,17 @@ pub mod force;
 pub mod nan;
 pub mod tables;
 
-use filter::{MinShareCount, StaticFilter};
-use limit::Limit;
+use filter::StaticFilter;
 
-// Whether a matched module takes its dependencies along, if it is said.
-#[derive(Clone, Copy)]
-pub enum Recursion {
-    Absent,
-    Off,
-    On,
-}
-
-// The options that are global and a group's.
+// The options that are global and a group's. Recursion is whether a matched module takes its dependencies along.
 #[derive(Clone, Copy)]
 pub struct Options {
-    pub min_size: Limit,
-    pub max_size: Limit,
-    pub min_module_size: Limit,
-    pub max_module_size: Limit,
-    pub min_share_count: MinShareCount,
-    pub recursion: Recursion,
+    pub min_size: Option<f64>,
+    pub max_size: Option<f64>,
+    pub min_module_size: Option<f64>,
+    pub max_module_size: Option<f64>,
+    pub min_share_count: Option<u32>,
+    pub recursion: Option<bool>,
 }
 
 // A group: its own options, the tags that it asks for, and what only groups have. An absent priority or threshold is 0.
@@ -46,5 +37,5 @@ pub struct Settings {
     pub entries_aware: bool,
     pub threshold: f64,
     pub min_size: f64,
-    pub max_size: Limit,
+    pub max_size: Option<f64>,
 }

@@ -1,56 +1,35 @@
--- Whether numbers ascend, looked at block by block: what is known after a block, and what a block answers of the whole list.
-use Prim.Native.Nat.{ℕ, ◌+◌, ◌-◌, ◌≤◌}
-use mathlib.Core.Bool.{Bool, true, false, not, ◌||◌, or-false}
-use mathlib.Core.List.{List}
+-- Whether the elements of a list ascend, looked at block by block: a block and what follows it share one element.
+use Prim.Native.Nat.{ℕ, zero, suc, ◌≤◌, ◌<◌}
+use mathlib.Core.Bool.{Bool, false, ◌||◌, or_assoc}
+use mathlib.Core.List.{List, [], ◌∷◌}
 use mathlib.Core.Path.{◌≡◌, refl, sym, ap, ◌∙◌}
-use native.Mathlib.Numerals.{add-one}
 use native.Mathlib.Omega.{arith}
-use lib.ListN.{length}
-use Rattle.lists.specs.Below.{any_below}
-use Rattle.lists.proofs.Below.{any_some, any_split, some_of}
-use Rattle.orders.specs.Ascending.{falls, falls_among, ascending}
+use lib.ListN.{length, get_or, take, drop, drop_of_length-le}
+use Rattle.orders.specs.Ascending.{falls_by}
 
-module _ (l : List ℕ) where
-  -- ---- within a block
+module _ {A : Type 0} (lower : A → A → Bool) where
+  pub block_and_rest : (n : ℕ) (l : List A) → falls_by lower l ≡ (falls_by lower (take (suc n) l) || falls_by lower (drop n l))
+  unfolding falls_by
+  block_and_rest zero [] = refl
+  block_and_rest zero (x ∷ l) = refl
+  block_and_rest (suc n) [] = refl
+  block_and_rest (suc n) (x ∷ []) = rw (drop_of_length-le {A = A} [] {i = n} (omega arith))
+  block_and_rest (suc n) (x ∷ y ∷ l) =
+      ap (λ (t : Bool). lower y x || t) (block_and_rest n (y ∷ l)) ∙ sym (or_assoc (lower y x) (falls_by lower (y ∷ take n l)) (falls_by lower (drop n (y ∷ l))))
 
-  pub among_none : (from : ℕ) → false ≡ falls_among l from 0
-  unfolding falls_among any_below
-  among_none from = refl
+  -- the first two elements, and what follows the first
+  pub pair_and_rest : (l pair : List A) (x y : A) → 2 ≤ length l → pair ≡ take 2 l → x ≡ get_or pair 0 x → y ≡ get_or pair 1 y
+      → falls_by lower l ≡ (lower y x || falls_by lower (drop 1 l))
+  unfolding falls_by
+  pair_and_rest [] pair x y h e p q = absurd (omega arith)
+  pair_and_rest (a ∷ []) pair x y h e p q = absurd (omega arith)
+  pair_and_rest (a ∷ b ∷ l) pair x y h e p q =
+      let first : x ≡ a = p ∙ ap (λ (s : List A). get_or s 0 x) e in
+      let second : y ≡ b = q ∙ ap (λ (s : List A). get_or s 1 y) e in
+      rw (first, second)
 
-  pub among_next : (from i : ℕ) {so_far : Bool} → so_far ≡ falls_among l from i → (falls l (from + i) || so_far) ≡ falls_among l from (i + 1)
-  unfolding falls_among any_below
-  among_next from i e = rw (add-one i, e)
-
-  -- ---- block after block
-
-  -- no number before `from` is followed by a lower one
-  abbrev pub RisesTo : ℕ → Type 0
-  RisesTo from = any_below (falls l) from ≡ false
-
-  pub rises_none : RisesTo 0
-  unfolding any_below
-  rises_none = refl
-
-  pub rises_next : (from count : ℕ) → RisesTo from → falls_among l from count ≡ false → RisesTo (from + count)
-  unfolding falls_among
-  rises_next from count so_far e = any_split (falls l) from count ∙ rw (e, so_far)
-
-  -- ---- the whole list
-
-  pub few_ascend : length l ≤ 1 → true ≡ ascending l
-  unfolding ascending any_below
-  few_ascend h = let e : length l - 1 ≡ 0 = omega arith in rw e
-
-  pub fall_descends : (from count : ℕ) → from + count ≤ length l - 1 → falls_among l from count ≡ true → false ≡ ascending l
-  unfolding ascending falls_among
-  fall_descends from count h e =
-      let s = some_of (λ k. falls l (from + k)) count e in
-      sym (ap not (any_some (falls l) (length l - 1) (from + s.0) (omega arith) s.2))
-
-  -- the last block decides
-  pub rest_decides : (from count : ℕ) → from + count ≡ length l - 1 → RisesTo from → not (falls_among l from count) ≡ ascending l
-  unfolding ascending falls_among
-  rest_decides from count e so_far =
-      let whole : any_below (falls l) (from + count) ≡ falls_among l from count =
-      any_split (falls l) from count ∙ rw so_far (or-false (falls_among l from count)) in
-      rw (← e) (ap not (sym whole))
+  pub few_fall : (l : List A) → length l < 2 → falls_by lower l ≡ false
+  unfolding falls_by
+  few_fall [] h = refl
+  few_fall (a ∷ []) h = refl
+  few_fall (a ∷ b ∷ l) h = absurd (omega arith)

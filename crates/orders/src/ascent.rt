@@ -1,67 +1,30 @@
 // Whether numbers are in ascending order, 16 pairs of neighbours at a time.
-ghost use Rattle.std.specs.Prelude.{◌≡◌, ◌+◌, ◌<◌, length};
-ghost use Rattle.orders.specs.Ascending.{falls_among, ascending};
+ghost use Rattle.std.specs.Prelude.{◌≡◌};
+ghost use Rattle.std.specs.Ordering.{partial_lt};
+ghost use Rattle.orders.specs.Ascending.{falls_by, ascends_by};
 
-// Whether one of the `count` numbers from `from` on is followed by a lower one. All are looked at, also behind such a number: so several are
-// compared at once.
-fn falls_among(a: &[u64], from: usize, count: usize) -> bool
-    requires { from + count < length a.now }
-    ensures { result ≡ falls_among a.now from count }
+// Whether an element is followed by a lower one. All are looked at, also behind such an element: so several are compared at once.
+fn falls<T: PartialOrd>(a: &[T]) -> bool
+    ensures { result ≡ falls_by (partial_lt T.partial_cmp) a.now }
 {
     let mut falls = false;
-    let mut i = 0;
-    while i < count {
-        falls = (a[from + i + 1] < a[from + i]) | falls;
-        i = i + 1;
+    for pair in a.windows(2) {
+        falls |= pair[1] < pair[0];
     }
     falls
 }
 
-// Whether each number is at least the one before it. Leaves behind the first 16 of which one is followed by a lower one.
-pub fn ascends(a: &[u64]) -> bool
-    ensures { result ≡ ascending a.now }
+// Whether each element is at least the one before it. Leaves behind the first 16 of which one is followed by a lower one.
+pub fn ascends<T: PartialOrd>(a: &[T]) -> bool
+    ensures { result ≡ ascends_by (partial_lt T.partial_cmp) a.now }
 {
-    if a.len() < 2 {
-        return true;
-    }
-    let pairs = a.len() - 1;
-    let mut from = 0;
-    while from + 16 <= pairs {
-        if falls_among(a, from, 16) {
+    // A loop by hand: each 17 share one number with the next 17, and the rest counts too, which no iterator gives in one.
+    let mut rest = a;
+    while 17 <= rest.len() {
+        if falls(&rest[..17]) {
             return false;
         }
-        from = from + 16;
+        rest = &rest[16..];
     }
-    !falls_among(a, from, pairs - from)
-}
-
-// The same two of words.
-fn words_fall_among(a: &[u32], from: usize, count: usize) -> bool
-    requires { from + count < length a.now }
-    ensures { result ≡ falls_among a.now from count }
-{
-    let mut falls = false;
-    let mut i = 0;
-    while i < count {
-        falls = (a[from + i + 1] < a[from + i]) | falls;
-        i = i + 1;
-    }
-    falls
-}
-
-pub fn words_ascend(a: &[u32]) -> bool
-    ensures { result ≡ ascending a.now }
-{
-    if a.len() < 2 {
-        return true;
-    }
-    let pairs = a.len() - 1;
-    let mut from = 0;
-    while from + 16 <= pairs {
-        if words_fall_among(a, from, 16) {
-            return false;
-        }
-        from = from + 16;
-    }
-    !words_fall_among(a, from, pairs - from)
+    !falls(rest)
 }

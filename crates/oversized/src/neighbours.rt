@@ -5,20 +5,19 @@ ghost use Rattle.oversized.specs.Neighbours.{Compared, Summed};
 
 use cut::alike::similarity_between;
 use cut::sizes::size_at;
+use ids::parts::Ids;
 use index::ModuleIdx;
 
 // Compares each module but the first with the one before it.
-pub fn fill_similar(bytes: &[u8], offsets: &[u32], order: &[u32], similar: &mut [u32])
-    requires { Named bytes.now offsets.now order.now × (length similar.old ≡ length order.now) }
-    ensures { Compared bytes.now offsets.now order.now similar.new }
+pub fn fill_similar(ids: &Ids, order: &[u32], similar: &mut [u32])
+    requires { Named ids.now.bytes.now ids.now.offsets.now order.now × (length similar.old ≡ length order.now) }
+    ensures { Compared ids.now.bytes.now ids.now.offsets.now order.now similar.new }
 {
-    let mut i = 1;
-    while i < order.len() {
+    for i in 1..order.len() {
         let last = i - 1;
         let before = order[last];
         let after = order[i];
-        similar[i] = similarity_between(bytes, offsets, ModuleIdx(before), ModuleIdx(after));
-        i = i + 1;
+        similar[i] = similarity_between(ids, ModuleIdx(before), ModuleIdx(after));
     }
 }
 
@@ -28,10 +27,8 @@ pub fn fill_sums(sizes: &[u64], order: &[u32], sums: &mut [f64])
     ensures { Summed sizes.now order.now sums.new }
 {
     let mut sum = 0.0;
-    let mut i = 0;
-    while i < order.len() {
+    for i in 0..order.len() {
         sums[i] = sum;
-        sum = sum + size_at(sizes, order, i);
-        i = i + 1;
+        sum += size_at(sizes, order, i);
     }
 }

@@ -12,6 +12,7 @@ use crate::marks::mark_by;
 use crate::neighbours::{fill_similar, fill_sums};
 use cut::tabled::pick_by_similarity;
 use cut::{Cut, CutPoint};
+use ids::parts::Ids;
 
 // The cut of modules of a total size, if they are above the maximum and one is allowed.
 fn cut_within(similar: &[u32], sums: &[f64], total: f64, minimum: f64, maximum: f64) -> Cut
@@ -89,21 +90,20 @@ fn cut_pieces(
         let Cut::At(point) = answer else {
             let mark = mark_by(maximum, size, answer);
             end_piece(starts, piece_sizes, marks, count, start, size, mark);
-            count = count + 1;
-            top = top + 1;
+            count += 1;
+            top += 1;
             end = start;
             continue;
         };
         push_pieces(starts, piece_sizes, top, start, point);
-        top = top - 1;
+        top -= 1;
     }
     count
 }
 
 // Cuts modules in id order into pieces, the rightmost first. Answers how many there are. Neighbours are compared, and sizes added, once for all cuts.
 pub fn split_oversized(
-    bytes: &[u8],
-    offsets: &[u32],
+    ids: &Ids,
     sizes: &[u64],
     order: &[u32],
     total: f64,
@@ -115,13 +115,13 @@ pub fn split_oversized(
     piece_sizes: &mut [f64],
     marks: &mut [u8],
 ) -> usize
-    requires pending { Pending bytes.now offsets.now sizes.now order.now total }
+    requires pending { Pending ids.now.bytes.now ids.now.offsets.now sizes.now order.now total }
     requires lent { Lent order.now similar.old sums.old starts.old piece_sizes.old marks.old }
-    ensures { Cutted (cutting_of bytes.now offsets.now sizes.now minimum maximum)
-        (pieces_of (cutting_of bytes.now offsets.now sizes.now minimum maximum) order.now)
+    ensures { Cutted (cutting_of ids.now.bytes.now ids.now.offsets.now sizes.now minimum maximum)
+        (pieces_of (cutting_of ids.now.bytes.now ids.now.offsets.now sizes.now minimum maximum) order.now)
         order.now sizes.now result starts.new piece_sizes.new marks.new }
 {
-    fill_similar(bytes, offsets, order, similar);
+    fill_similar(ids, order, similar);
     fill_sums(sizes, order, sums);
     cut_pieces(
         similar,

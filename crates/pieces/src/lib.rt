@@ -3,8 +3,11 @@
 
 ghost use Rattle.oversized.specs.Cutting.{Lent};
 ghost use Rattle.pieces.specs.Chunks.{chunks_of, PiecesReady, Converted};
+ghost use Rattle.emitting.specs.Emitted.{work, SameAreas};
 
+use emitting::ChunkAreas;
 use emitting::emit::{Head, emit_parts};
+use ids::parts::Ids;
 use index::ChunkIdx;
 use oversized::pieces::split_oversized;
 
@@ -17,52 +20,25 @@ fn emit_pieces(
     maximum: f64,
     sizes: &[u64],
     bits: &[u64],
-    bytes: &[u8],
-    offsets: &[u32],
+    ids: &Ids,
     order: &[u32],
     number: ChunkIdx,
     at: usize,
-    chunk_of: &mut [u32],
-    group_of: &mut [u32],
-    name_of: &mut [u32],
-    size_of: &mut [f64],
-    bits_of: &mut [u64],
-    mark_of: &mut [u8],
+    areas: &mut ChunkAreas,
     similar: &mut [u32],
     sums: &mut [f64],
     starts: &mut [u32],
     piece_sizes: &mut [f64],
     marks: &mut [u8],
 ) -> usize
-    requires pieces_ready { PiecesReady bytes.now offsets.now sizes.now order.now total bits.now (record {
-      chunk_of = chunk_of.old;
-      group_of = group_of.old;
-      name_of = name_of.old;
-      size_of = size_of.old;
-      bits_of = bits_of.old;
-      mark_of = mark_of.old;
-    }) number.0 at }
+    requires pieces_ready { PiecesReady ids.now.bytes.now ids.now.offsets.now sizes.now order.now total bits.now (work areas.old) number.0 at }
     requires lent { Lent order.now similar.old sums.old starts.old piece_sizes.old marks.old }
-    ensures { Converted (chunks_of bytes.now offsets.now sizes.now head minimum maximum order.now)
-        bits.now number.0 at result (record {
-          chunk_of = chunk_of.old;
-          group_of = group_of.old;
-          name_of = name_of.old;
-          size_of = size_of.old;
-          bits_of = bits_of.old;
-          mark_of = mark_of.old;
-        }) (record {
-          chunk_of = chunk_of.new;
-          group_of = group_of.new;
-          name_of = name_of.new;
-          size_of = size_of.new;
-          bits_of = bits_of.new;
-          mark_of = mark_of.new;
-        }) }
+    ensures emitted { Converted (chunks_of ids.now.bytes.now ids.now.offsets.now sizes.now head minimum maximum order.now)
+        bits.now number.0 at result (work areas.old) (work areas.new) }
+    ensures same { SameAreas areas.old areas.new }
 {
     let count = split_oversized(
-        bytes,
-        offsets,
+        ids,
         sizes,
         order,
         total,
@@ -83,12 +59,7 @@ fn emit_pieces(
         bits,
         number,
         at,
-        chunk_of,
-        group_of,
-        name_of,
-        size_of,
-        bits_of,
-        mark_of,
+        areas,
     );
     count
 }
@@ -101,42 +72,16 @@ pub fn emit_oversized(
     maximum: f64,
     sizes: &[u64],
     bits: &[u64],
-    bytes: &[u8],
-    offsets: &[u32],
+    ids: &Ids,
     order: &[u32],
     number: ChunkIdx,
     at: usize,
-    chunk_of: &mut [u32],
-    group_of: &mut [u32],
-    name_of: &mut [u32],
-    size_of: &mut [f64],
-    bits_of: &mut [u64],
-    mark_of: &mut [u8],
+    areas: &mut ChunkAreas,
 ) -> usize
-    requires { PiecesReady bytes.now offsets.now sizes.now order.now total bits.now (record {
-      chunk_of = chunk_of.old;
-      group_of = group_of.old;
-      name_of = name_of.old;
-      size_of = size_of.old;
-      bits_of = bits_of.old;
-      mark_of = mark_of.old;
-    }) number.0 at }
-    ensures { Converted (chunks_of bytes.now offsets.now sizes.now head minimum maximum order.now)
-        bits.now number.0 at result (record {
-          chunk_of = chunk_of.old;
-          group_of = group_of.old;
-          name_of = name_of.old;
-          size_of = size_of.old;
-          bits_of = bits_of.old;
-          mark_of = mark_of.old;
-        }) (record {
-          chunk_of = chunk_of.new;
-          group_of = group_of.new;
-          name_of = name_of.new;
-          size_of = size_of.new;
-          bits_of = bits_of.new;
-          mark_of = mark_of.new;
-        }) }
+    requires { PiecesReady ids.now.bytes.now ids.now.offsets.now sizes.now order.now total bits.now (work areas.old) number.0 at }
+    ensures emitted { Converted (chunks_of ids.now.bytes.now ids.now.offsets.now sizes.now head minimum maximum order.now)
+        bits.now number.0 at result (work areas.old) (work areas.new) }
+    ensures same { SameAreas areas.old areas.new }
 {
     let n = order.len();
     if n <= 256 {
@@ -152,17 +97,11 @@ pub fn emit_oversized(
             maximum,
             sizes,
             bits,
-            bytes,
-            offsets,
+            ids,
             order,
             number,
             at,
-            chunk_of,
-            group_of,
-            name_of,
-            size_of,
-            bits_of,
-            mark_of,
+            areas,
             &mut similar[..n],
             &mut sums[..n],
             &mut starts,
@@ -182,17 +121,11 @@ pub fn emit_oversized(
         maximum,
         sizes,
         bits,
-        bytes,
-        offsets,
+        ids,
         order,
         number,
         at,
-        chunk_of,
-        group_of,
-        name_of,
-        size_of,
-        bits_of,
-        mark_of,
+        areas,
         &mut similar[..n],
         &mut sums[..n],
         &mut starts,

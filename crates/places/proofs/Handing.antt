@@ -27,8 +27,10 @@ use Rattle.exec_order.specs.Listed.{listed_in, Kept}
 use Rattle.ranks.specs.ById.{same_id, Ranks, Rankable}
 use Rattle.exec_order.specs.ByOrder.{same_order, runs_first, Modules, PutByOrder}
 use Rattle.places.specs.Ordered.{listed_of, HandedIds, HandedOrders, RankedListed, OrderedListed, Hands, answer_of, InOrder}
-use Rattle.places.specs.declared.ordered.Ordered.{Ordered}
-use Rattle.places.specs.declared.ordered.Ordered.TheVariants.{SameId}
+use Rattle.std.specs.Prelude.{Result}
+use Rattle.std.specs.Prelude.Result.{Err}
+use Rattle.refusal.specs.declared.Refusal.{Refusal}
+use Rattle.refusal.specs.declared.Refusal.TheVariants.{SameId}
 use Rattle.places.proofs.SharedByTwo.{shared_id_lem, shared_order_lem}
 
 -- ---- the list
@@ -115,7 +117,7 @@ module _ {b : Given} {flags orders bytes offsets : List ℕ} (h : Hands b flags 
 
   module _ {list list' rank rank' : List ℕ} where
     -- two share an id
-    pub refused_id : RankedListed flags bytes offsets true list list' rank rank' → InOrder b SameId list list' rank rank'
+    pub refused_id : RankedListed flags bytes offsets true list list' rank rank' → InOrder b (Err SameId) list list' rank rank'
     unfolding answer_of
     refused_id g =
         let e : true ≡ shared_id b = g.ranked.shared ∙ ids_same in
@@ -127,7 +129,7 @@ module _ {b : Given} {flags orders bytes offsets : List ℕ} (h : Hands b flags 
         }
 
     -- none do
-    pub ids_apart : {r : Ordered} {list'' : List ℕ} → RankedListed flags bytes offsets false list list' rank rank' → OrderedListed flags orders r list' list''
+    pub ids_apart : {r : Result ℕ Refusal} {list'' : List ℕ} → RankedListed flags bytes offsets false list list' rank rank' → OrderedListed flags orders r list' list''
         → InOrder b r list list'' rank rank'
     ids_apart {r} {list''} g o =
         let e : false ≡ shared_id b = g.ranked.shared ∙ ids_same in

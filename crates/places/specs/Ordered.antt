@@ -13,8 +13,10 @@ use Rattle.exec_order.specs.AnyTwo.{any_two}
 use Rattle.exec_order.specs.Listed.{listed_in}
 use Rattle.exec_order.specs.ByOrder.{same_order, runs_first}
 use Rattle.ranks.specs.ById.{Ranks, RankedById}
-use Rattle.places.specs.declared.ordered.Ordered.{Ordered}
-use Rattle.places.specs.declared.ordered.Ordered.TheVariants.{SameId, SameOrder, Listed}
+use Rattle.std.specs.Prelude.{Result}
+use Rattle.std.specs.Prelude.Result.{Ok, Err}
+use Rattle.refusal.specs.declared.Refusal.{Refusal}
+use Rattle.refusal.specs.declared.Refusal.TheVariants.{SameId, SameOrder}
 
 -- the normal included modules of a build, by number
 unfoldable pub listed_of : Given → List ℕ
@@ -57,13 +59,13 @@ pub record Hands (b : Given) (flags orders bytes offsets : List ℕ) : Type 0 wh
   pub with_offsets : b.shared.offsets ≡ offsets
 
 -- 4 is tested before 5
-unfoldable pub answer_of : Bool → Bool → ℕ → Ordered
-answer_of true order count = SameId
-answer_of false true count = SameOrder
-answer_of false false count = Listed count
+unfoldable pub answer_of : Bool → Bool → ℕ → Result ℕ Refusal
+answer_of true order count = Err SameId
+answer_of false true count = Err SameOrder
+answer_of false false count = Ok count
 
 -- The answer to refusal 5, where 4 does not apply. The first entries hold the normal included modules in execution order.
-pub record OrderedListed (flags orders : List ℕ) (r : Ordered) (list list' : List ℕ) : Type 0 where
+pub record OrderedListed (flags orders : List ℕ) (r : Result ℕ Refusal) (list list' : List ℕ) : Type 0 where
   pub answer : r ≡ answer_of false (any_two (same_order orders) (listed_in flags)) (length (listed_in flags))
   pub in_order : take (length (listed_in flags)) list' ≡ sort_by (runs_first orders) (listed_in flags)
   pub same_length : length list' ≡ length list
@@ -74,7 +76,7 @@ pub record BothOrders (b : Given) (by_order rank rank' : List ℕ) : Type 0 wher
   pub ranked : Ranks (sort_by (by_id b.shared.bytes b.shared.offsets) (listed_of b)) rank rank'
 
 -- refusals 4 and 5, and where neither applies, both orders
-pub record InOrder (b : Given) (r : Ordered) (by_order by-order' rank rank' : List ℕ) : Type 0 where
+pub record InOrder (b : Given) (r : Result ℕ Refusal) (by_order by-order' rank rank' : List ℕ) : Type 0 where
   pub answer : r ≡ answer_of (shared_id b) (shared_order b) (length (listed_of b))
   pub accepted : shared_id b ≡ false → shared_order b ≡ false → BothOrders b by-order' rank rank'
   pub order_length : length by-order' ≡ length by_order

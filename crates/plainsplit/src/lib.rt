@@ -2,48 +2,65 @@
 // without the facts of the call, which are many.
 #![tactic(auto)]
 
-use chunks::ChunksAnswer;
+use buildlines::counts::Counts;
+use emitting::ChunkAreas;
+use ids::parts::Ids;
 use options::Options;
+use options::tables::Groups;
+use records::Records;
+use refusal::Refusal;
 
+#[derive(Clone, Copy)]
+pub struct ModuleTables<'a> {
+    pub flags: &'a [u8],
+    pub sizes: &'a [u64],
+    pub orders: &'a [u32],
+    pub shares: &'a [u32],
+    pub tags: &'a [u64],
+    pub bits: &'a [u64],
+    pub ids: Ids<'a>,
+}
+
+#[derive(Clone, Copy)]
+pub struct Build<'a> {
+    pub counts: Counts,
+    pub options: Options,
+    pub modules: ModuleTables<'a>,
+    pub records: Records<'a>,
+    pub groups: Groups<'a>,
+    pub answers: &'a [u32],
+}
+
+// The table of ids over its two slices.
+pub fn ids_of<'a>(bytes: &'a [u8], offsets: &'a [u32]) -> Ids<'a> {
+    Ids { bytes, offsets }
+}
+
+// Answers how many chunks there are.
 pub fn split(
-    n: usize,
-    g: usize,
-    e: usize,
-    k: usize,
-    d: usize,
-    flags: &[u8],
-    sizes: &[u64],
-    orders: &[u32],
-    shares: &[u32],
-    tags: &[u64],
-    bits: &[u64],
-    ids: &[u8],
-    offsets: &[u32],
-    first: &[u32],
-    dependency: &[u32],
-    next: &[u32],
-    options: Options,
-    given: &[u8],
-    min_size: &[f64],
-    max_size: &[f64],
-    min_module_size: &[f64],
-    max_module_size: &[f64],
-    min_share_count: &[u32],
-    group_tags: &[u64],
-    priority: &[u32],
-    threshold: &[f64],
-    answers: &[u32],
-    on_entry: usize,
-    chunk_of: &mut [u32],
+    build: Build,
+    chunks: &mut ChunkAreas,
     next_of: &mut [u32],
     first_of: &mut [u32],
-    group_of: &mut [u32],
-    name_of: &mut [u32],
-    size_of: &mut [f64],
-    bits_of: &mut [u64],
-    mark_of: &mut [u8],
     scratch: &mut [u32],
-) -> ChunksAnswer {
+) -> Result<usize, Refusal> {
+    let Counts {
+        n,
+        g,
+        e,
+        k,
+        d,
+        on_entry,
+    } = build.counts;
+    let ModuleTables {
+        flags,
+        sizes,
+        orders,
+        shares,
+        tags,
+        bits,
+        ids,
+    } = build.modules;
     chunks::split(
         n,
         g,
@@ -56,31 +73,15 @@ pub fn split(
         shares,
         tags,
         bits,
-        ids,
-        offsets,
-        first,
-        dependency,
-        next,
-        options,
-        given,
-        min_size,
-        max_size,
-        min_module_size,
-        max_module_size,
-        min_share_count,
-        group_tags,
-        priority,
-        threshold,
-        answers,
+        &ids,
+        &build.records,
+        build.options,
+        &build.groups,
+        build.answers,
         on_entry,
-        chunk_of,
+        chunks,
         next_of,
         first_of,
-        group_of,
-        name_of,
-        size_of,
-        bits_of,
-        mark_of,
         scratch,
     )
 }

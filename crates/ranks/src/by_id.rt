@@ -4,31 +4,29 @@ ghost use Rattle.orders.specs.ById.{Named};
 ghost use Rattle.ranks.specs.ById.{tied_at, neighbours_tie, Rankable, Ranks, HasRanks, RankArea, RankedById};
 
 use idbytes::shared::same_id;
-use ids::parts::id_at;
+use ids::parts::Ids;
 use idsort::rounds::sort_by_id;
 use index::ModuleIdx;
 
 // Whether the modules at i and i + 1 of a list have the same id.
-fn tied_at(bytes: &[u8], offsets: &[u32], list: &[u32], i: usize) -> bool
-    requires { Named bytes.now offsets.now list.now × (i + 1 < length list.now) }
-    ensures { result ≡ tied_at bytes.now offsets.now list.now i }
+fn tied_at(ids: &Ids, list: &[u32], i: usize) -> bool
+    requires { Named ids.now.bytes.now ids.now.offsets.now list.now × (i + 1 < length list.now) }
+    ensures { result ≡ tied_at ids.now.bytes.now ids.now.offsets.now list.now i }
 {
-    let lhs = id_at(bytes, offsets, ModuleIdx(list[i]));
-    let rhs = id_at(bytes, offsets, ModuleIdx(list[i + 1]));
+    let lhs = ids.id_at(ModuleIdx(list[i]));
+    let rhs = ids.id_at(ModuleIdx(list[i + 1]));
     same_id(lhs, rhs)
 }
 
 // Whether two neighbours of a list have the same id. In id order there are such neighbours exactly where two modules share an id.
-pub fn shares_id(bytes: &[u8], offsets: &[u32], list: &[u32]) -> bool
-    requires { Named bytes.now offsets.now list.now }
-    ensures { result ≡ neighbours_tie bytes.now offsets.now list.now }
+pub fn shares_id(ids: &Ids, list: &[u32]) -> bool
+    requires { Named ids.now.bytes.now ids.now.offsets.now list.now }
+    ensures { result ≡ neighbours_tie ids.now.bytes.now ids.now.offsets.now list.now }
 {
-    let mut i = 0;
-    while i + 1 < list.len() {
-        if tied_at(bytes, offsets, list, i) {
+    for i in 1..list.len() {
+        if tied_at(ids, list, i - 1) {
             return true;
         }
-        i = i + 1;
     }
     false
 }
@@ -38,26 +36,18 @@ pub fn fill_rank(list: &[u32], rank: &mut [u32])
     requires { HasRanks list.now rank.old }
     ensures { Ranks list.now rank.old rank.new }
 {
-    let mut i = 0;
-    while i < list.len() {
-        rank[list[i] as usize] = i as u32;
-        i = i + 1;
+    for (i, m) in list.iter().enumerate() {
+        rank[*m as usize] = i as u32;
     }
 }
 
 // Puts the modules in id order, over an area that is as long, and ranks them, unless two of them share an id.
-fn rank_over(
-    bytes: &[u8],
-    offsets: &[u32],
-    list: &mut [u32],
-    rank: &mut [u32],
-    spare: &mut [u32],
-) -> bool
-    requires { RankArea bytes.now offsets.now list.old rank.old spare.old }
-    ensures { RankedById bytes.now offsets.now list.old result rank.old rank.new }
+fn rank_over(ids: &Ids, list: &mut [u32], rank: &mut [u32], spare: &mut [u32]) -> bool
+    requires { RankArea ids.now.bytes.now ids.now.offsets.now list.old rank.old spare.old }
+    ensures { RankedById ids.now.bytes.now ids.now.offsets.now list.old result rank.old rank.new }
 {
-    sort_by_id(bytes, offsets, list, spare);
-    if shares_id(bytes, offsets, list) {
+    sort_by_id(ids, list, spare);
+    if shares_id(ids, list) {
         return true;
     }
     fill_rank(list, rank);
@@ -65,15 +55,15 @@ fn rank_over(
 }
 
 // The same, with an area of its own. Few modules get a short one, which costs less.
-pub fn rank_by_id(bytes: &[u8], offsets: &[u32], list: &mut [u32], rank: &mut [u32]) -> bool
-    requires { Rankable bytes.now offsets.now list.old rank.old }
-    ensures { RankedById bytes.now offsets.now list.old result rank.old rank.new }
+pub fn rank_by_id(ids: &Ids, list: &mut [u32], rank: &mut [u32]) -> bool
+    requires { Rankable ids.now.bytes.now ids.now.offsets.now list.old rank.old }
+    ensures { RankedById ids.now.bytes.now ids.now.offsets.now list.old result rank.old rank.new }
 {
     let n = list.len();
     if n <= 1024 {
         let mut spare = [0u32; 1024];
-        return rank_over(bytes, offsets, list, rank, &mut spare[..n]);
+        return rank_over(ids, list, rank, &mut spare[..n]);
     }
     let mut spare = [0u32; 4096];
-    rank_over(bytes, offsets, list, rank, &mut spare[..n])
+    rank_over(ids, list, rank, &mut spare[..n])
 }

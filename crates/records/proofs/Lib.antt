@@ -6,3 +6,4 @@ pub mod ChainMarks
 pub mod Known
 pub mod Marking
 pub mod Table
+pub mod FromOne

@@ -8,6 +8,14 @@ ghost use Rattle.lists.specs.Stored.{stored};
 ghost use Rattle.records.specs.Ascending.{all_ascend};
 ghost use Rattle.records.specs.Bad.{bad_first, bad_record, bad_chain, bad_records, RecordTables, ChainTables};
 
+// The tables of dependency records: each module's first record, and each record's module and next.
+#[derive(Clone, Copy)]
+pub struct Records<'a> {
+    pub first: &'a [u32],
+    pub dependency: &'a [u32],
+    pub next: &'a [u32],
+}
+
 // A first record above d. All are looked at, also behind a bad one, and compared in 32 bits as they lie in the table: so several at once.
 fn bad_first(first: &[u32], n: usize, d: usize) -> bool
     requires { (n ≤ length first.now) × (d ≤ 65535) }
@@ -15,10 +23,8 @@ fn bad_first(first: &[u32], n: usize, d: usize) -> bool
 {
     let last = d as u32;
     let mut bad = false;
-    let mut m = 0;
-    while m < n {
-        bad = (last < first[m]) | bad;
-        m = m + 1;
+    for record in &first[..n] {
+        bad |= last < *record;
     }
     bad
 }
@@ -31,10 +37,8 @@ fn bad_record(dependency: &[u32], next: &[u32], n: usize, d: usize) -> bool
     let last = d as u32;
     let modules = n as u32;
     let mut bad = false;
-    let mut k = 0;
-    while k < d {
-        bad = (last < next[k + 1]) | (modules <= dependency[k + 1]) | bad;
-        k = k + 1;
+    for r in 1..d + 1 {
+        bad |= (last < next[r]) | (modules <= dependency[r]);
     }
     bad
 }
@@ -45,11 +49,8 @@ fn all_ascend(next: &[u32], d: usize) -> bool
     ensures { result ≡ all_ascend next.now d }
 {
     let mut all = true;
-    let mut r = 0;
-    while r < d {
-        r = r + 1;
-        let after = next[r];
-        all = ((after == 0) | ((r as u32) < after)) & all;
+    for r in 1..d + 1 {
+        all &= (next[r] == 0) | ((r as u32) < next[r]);
     }
     all
 }
@@ -74,9 +75,8 @@ fn bad_chain(first: &[u32], next: &[u32], n: usize, d: usize, known: &mut [u8]) 
 {
     known[0] = 1;
     let mut bad = false;
-    let mut m = 0;
-    'modules: while m < n {
-        let start = first[m] as usize;
+    'modules: for from in &first[..n] {
+        let start = *from as usize;
         let mut r = start;
         let mut left = d;
         while known[r] == 0 {
@@ -84,11 +84,10 @@ fn bad_chain(first: &[u32], next: &[u32], n: usize, d: usize, known: &mut [u8]) 
                 bad = true;
                 break 'modules;
             }
-            left = left - 1;
+            left -= 1;
             r = next[r] as usize;
         }
         know_chain(next, known, d, start);
-        m = m + 1;
     }
     bad
 }
@@ -107,18 +106,11 @@ fn any_bad_chain(first: &[u32], next: &[u32], n: usize, d: usize) -> bool
 }
 
 // Refusal 7. A chain whose records ascend ends, so chains are gone along only where some record does not ascend.
-pub fn bad_records(first: &[u32], dependency: &[u32], next: &[u32], n: usize, d: usize) -> bool
-    requires { RecordTables first.now dependency.now next.now n d }
-    ensures { result ≡ bad_records first.now dependency.now next.now n d }
+pub fn bad_records(records: &Records, n: usize, d: usize) -> bool
+    requires { RecordTables records.now.first.now records.now.dependency.now records.now.next.now n d }
+    ensures { result ≡ bad_records records.now.first.now records.now.dependency.now records.now.next.now n d }
 {
-    if bad_first(first, n, d) {
-        return true;
-    }
-    if bad_record(dependency, next, n, d) {
-        return true;
-    }
-    if all_ascend(next, d) {
-        return false;
-    }
-    any_bad_chain(first, next, n, d)
+    bad_first(records.first, n, d)
+        || bad_record(records.dependency, records.next, n, d)
+        || (!all_ascend(records.next, d) && any_bad_chain(records.first, records.next, n, d))
 }

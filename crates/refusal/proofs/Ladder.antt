@@ -8,6 +8,9 @@ use native.Mathlib.Omega.{arith}
 use borrow.Author.Tests.{ltb-true}
 use lib.Dec.{ltb}
 use Rattle.refusal.specs.Outcome.{Outcome, refused, accepted, Test, test, outcome, number_of, first_number}
+use Rattle.refusal.specs.Answers.{refusal_number}
+use Rattle.refusal.specs.declared.Refusal.{Refusal}
+use Rattle.refusal.specs.declared.Refusal.TheVariants as refusal
 use Rattle.refusal.proofs.Calls.{never_both}
 use Rattle.refusal.proofs.Lowest.{both}
 
@@ -113,3 +116,32 @@ stops k ts us h e = ap number_of (refuses tt k ts us h e)
 pub past_number : (ts us : List Test) → numbered ts ≡ true → 0 ≡ first_number ts → first_number (ts ++ us) ≡ first_number us
 unfolding first_number
 past_number ts us p e = ap number_of (past tt ts us p e)
+
+-- ---- a part of the conditions, as the function that tests it answers
+
+-- no refusal has the number 0
+pub number_above : (e : Refusal) → 0 < refusal_number e
+number_above refusal.Count = omega arith
+number_above refusal.Length = omega arith
+number_above refusal.Id = omega arith
+number_above refusal.SameId = omega arith
+number_above refusal.SameOrder = omega arith
+number_above refusal.Total = omega arith
+number_above refusal.Record = omega arith
+number_above refusal.Nan = omega arith
+number_above refusal.Bit = omega arith
+number_above refusal.Number = omega arith
+number_above refusal.ChunkCount = omega arith
+number_above refusal.Area = omega arith
+number_above refusal.Scratch = omega arith
+number_above refusal.Utf8 = omega arith
+number_above refusal.NameOrder = omega arith
+number_above refusal.Hash = omega arith
+
+-- a refusal of the part refuses the call
+pub part_refuses : {A : Type 0} (a : A) (e : Refusal) (ts us : List Test) → refusal_number e ≡ first_number ts → refused (refusal_number e) ≡ outcome (ts ++ us) a
+part_refuses a e ts us told = refuses a (refusal_number e) ts us (number_above e) told
+
+-- and is the number of the first condition of both parts
+pub part_stops : (e : Refusal) (ts us : List Test) → refusal_number e ≡ first_number ts → refusal_number e ≡ first_number (ts ++ us)
+part_stops e ts us told = stops (refusal_number e) ts us (number_above e) told

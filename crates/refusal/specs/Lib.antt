@@ -2,3 +2,4 @@
 pub mod Outcome
 pub mod Call
 pub mod Counts
+pub mod Answers

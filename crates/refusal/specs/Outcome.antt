@@ -16,6 +16,11 @@ abbrev pub value_or : {A : Type 0} → Outcome A → A → A
 value_or (refused n) held = held
 value_or (accepted a) held = a
 
+-- the outcome of a call whose values are said in another form
+abbrev pub mapped : {A B : Type 0} → (A → B) → Outcome A → Outcome B
+mapped f (refused n) = refused n
+mapped f (accepted a) = accepted (f a)
+
 -- a condition that a call tests: its number in the tables, and whether it applies
 pub data Test : Type 0 where
   test : ℕ → Bool → Test

@@ -1,5 +1,8 @@
-// The limits of the counts, and the numbers of the refusals by what each says of the input or of the state.
+// The limits of the counts, and the refusals by what each says of the input or of the state.
 #![tactic(auto)]
+
+ghost use Rattle.std.specs.Prelude.{◌≡◌};
+ghost use Rattle.refusal.specs.Answers.{refusal_number};
 
 pub const MODULE_LIMIT: usize = 4096;
 
@@ -11,35 +14,64 @@ pub const NAME_LIMIT: usize = 65535;
 
 pub const RECORD_LIMIT: usize = 65535;
 
-// A count is above its limit.
-pub const COUNT: u32 = 1;
-// A table's length is not the one that its counts imply.
-pub const LENGTH: u32 = 2;
-// An id offset falls or passes the end, or an id is longer than its limit.
-pub const ID: u32 = 3;
-// Two normal included modules share a stable id.
-pub const SAME_ID: u32 = 4;
-// Two normal included modules share an execution order.
-pub const SAME_ORDER: u32 = 5;
-// Sizes add to more than 2^53.
-pub const TOTAL: u32 = 6;
-// A dependency record or a chain of them is bad.
-pub const RECORD: u32 = 7;
-// A given limit or threshold is NaN.
-pub const NAN: u32 = 8;
-// A flag byte or an entry bit is out of range.
-pub const BIT: u32 = 9;
-// An answer or a start module is out of range.
-pub const NUMBER: u32 = 10;
-// The chunk count on entry is above its limit.
-pub const CHUNK_COUNT: u32 = 11;
-// An output area is too short.
-pub const AREA: u32 = 12;
-// The lent scratch is too short.
-pub const SCRATCH: u32 = 13;
-// A name isn't UTF-8.
-pub const UTF8: u32 = 14;
-// The group names don't strictly ascend.
-pub const NAME_ORDER: u32 = 15;
-// The hash isn't eight bytes below 128.
-pub const HASH: u32 = 16;
+#[derive(Clone, Copy, PartialEq, Eq, Debug)]
+pub enum Refusal {
+    // A count is above its limit.
+    Count,
+    // A table's length is not the one that its counts imply.
+    Length,
+    // An id offset falls or passes the end, or an id is longer than its limit.
+    Id,
+    // Two normal included modules share a stable id.
+    SameId,
+    // Two normal included modules share an execution order.
+    SameOrder,
+    // Sizes add to more than 2^53.
+    Total,
+    // A dependency record or a chain of them is bad.
+    Record,
+    // A given limit or threshold is NaN.
+    Nan,
+    // A flag byte or an entry bit is out of range.
+    Bit,
+    // An answer or a start module is out of range.
+    Number,
+    // The chunk count on entry is above its limit.
+    ChunkCount,
+    // An output area is too short.
+    Area,
+    // The lent scratch is too short.
+    Scratch,
+    // A name isn't UTF-8.
+    Utf8,
+    // The group names don't strictly ascend.
+    NameOrder,
+    // The hash isn't eight bytes below 128.
+    Hash,
+}
+
+impl Refusal {
+    // The number that a call returns to a host.
+    pub fn number(self) -> u32
+        ensures { result ≡ refusal_number self }
+    {
+        match self {
+            Refusal::Count => 1,
+            Refusal::Length => 2,
+            Refusal::Id => 3,
+            Refusal::SameId => 4,
+            Refusal::SameOrder => 5,
+            Refusal::Total => 6,
+            Refusal::Record => 7,
+            Refusal::Nan => 8,
+            Refusal::Bit => 9,
+            Refusal::Number => 10,
+            Refusal::ChunkCount => 11,
+            Refusal::Area => 12,
+            Refusal::Scratch => 13,
+            Refusal::Utf8 => 14,
+            Refusal::NameOrder => 15,
+            Refusal::Hash => 16,
+        }
+    }
+}

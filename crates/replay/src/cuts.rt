@@ -1,136 +1,102 @@
 // cut TAG N MINIMUM MAXIMUM, then N times: ID SIZE
-ghost use Rattle.std.specs.Prelude.{◌<◌, ◌≤◌};
+ghost use Rattle.std.specs.Prelude.{◌≤◌};
+ghost use Rattle.std.specs.Option.{IfSome};
 
-use cut::{Cut, CutAnswer, CutPoint};
-use index::ModuleIdx;
-use textform::numbers::Field;
-use textform::{doubles, entries, numbers, out, pairs, words};
+use cut::{Cut, CutPoint};
+use ids::parts::Ids;
+use textform::reading::Words;
+use textform::{entries, out};
+use withlines::Form;
 
-// The id and the size of module m. The value is the place past the id's bytes, which is the next offset.
-fn read_module(
-    line: &[u8],
-    at: usize,
-    m: ModuleIdx,
-    ids: &mut [u8; 16384],
-    from: usize,
-    offsets: &mut [u32; 4099],
-    sizes: &mut [u64; 4098],
-) -> Field
-    requires { (m.0 < 4097) × (from ≤ 16384) }
-    ensures { result.value ≤ 16384 }
-{
-    let id = pairs::read(line, at, ids, from);
-    let size = numbers::decimal(line, id.at);
-    let i = m.0 as usize;
-    offsets[i + 1] = id.value as u32;
-    sizes[i] = size.value;
-    Field {
-        value: id.value,
-        at: size.at,
-    }
-}
-
-// The ids one after another, their offsets, and the sizes. Answers how many bytes the ids have, and the place past the last word.
-fn read_modules(
-    line: &[u8],
-    at: usize,
+// What a case hands over. The tables have entries past the last, since a line may lend more or fewer of them.
+#[derive(Drop)]
+struct Call<'a> {
     n: usize,
-    ids: &mut [u8; 16384],
-    offsets: &mut [u32; 4099],
-    sizes: &mut [u64; 4098],
-) -> Field
-    requires { n ≤ 4097 }
-{
-    let mut place = at;
-    let mut end = 0;
-    let mut i = 0;
-    while i < n {
-        let m = i as u32;
-        let module = read_module(line, place, ModuleIdx(m), ids, end, offsets, sizes);
-        place = module.at;
-        end = module.value as usize;
-        i = i + 1;
-    }
-    Field {
-        value: end as u64,
-        at: place,
-    }
+    sizes: &'a [u64],
+    minimum: f64,
+    maximum: f64,
+    ghost within_limits: { n ≤ 4097 },
 }
 
-// Other offsets, if a line has them.
-fn spoil_offsets(with: &[u8], n: usize, offsets: &mut [u32; 4099])
-    requires { n ≤ 4097 }
+// The ids one after another, the offset past each, and the sizes. Answers how many bytes the ids have.
+fn read_modules(
+    words: &mut Words,
+    ids: &mut [u8; 16384],
+    offsets: &mut [u32],
+    sizes: &mut [u64],
+) -> Option<usize>
+    ensures { IfSome result (λ n. n ≤ 16384) }
 {
-    withlines::offsets::spoil(with, b"offsets", n + 1, offsets);
+    let mut end = 0;
+    'modules: for (offset, size) in offsets.iter_mut().zip(sizes.iter_mut()) {
+        end += words.bytes(&mut ids[end..])?;
+        *offset = end as u32;
+        *size = words.decimal()?;
+    }
+    Some(end)
 }
 
 // Whether every line that spoils the call is one that it can have.
-fn all_known(with: &[u8], n: usize) -> bool
+fn all_known(with: &[&[u8]], n: usize) -> bool
     requires { n ≤ 4097 }
 {
-    withlines::all_listed(
+    withlines::all_known(
         with,
-        b"len offsets\nlen sizes\ncount n",
-        withlines::known(with, b"offsets", b"", n + 1),
+        &[
+            Form::length(b"offsets"),
+            Form::length(b"sizes"),
+            Form::count(b"n"),
+            Form::unnamed(b"offsets", n + 1),
+        ],
     )
 }
 
-// A case, and the lines before it that spoil it.
-pub fn answered(tag: &[u8], line: &[u8], with: &[u8]) -> bool {
-    let count = numbers::decimal_within(line, 0, 4097);
-    let n = count.value as usize;
-    let minimum = doubles::double(line, count.at);
-    let maximum = doubles::double(line, minimum.at);
+// Runs a case, given the lines before it that spoil it. Nothing if it can't be read, or is beyond the limits.
+pub fn answer(tag: &[u8], mut words: Words, with: &[&[u8]]) -> Option<()> {
+    let n = words.decimal_within(4097)? as usize;
+    let minimum = words.double()?;
+    let maximum = words.double()?;
     let mut ids = [0u8; 16384];
     let mut offsets = [0u32; 4099];
     let mut sizes = [0u64; 4098];
-    let listed = read_modules(line, maximum.at, n, &mut ids, &mut offsets, &mut sizes);
-    if !words::ended(line, listed.at) {
-        return false;
+    let bytes = read_modules(
+        &mut words,
+        &mut ids,
+        &mut offsets[1..n + 1],
+        &mut sizes[..n],
+    )?;
+    if !words.ended() || !all_known(with, n) {
+        return None;
     }
-    if !all_known(with, n) {
-        return false;
-    }
-    spoil_offsets(with, n, &mut offsets);
+    withlines::offsets::spoil(with, b"offsets", &mut offsets[..n + 1]);
     out::begin(b"cut", tag);
-    let bytes = listed.value as usize;
-    run(
-        with,
+    let call = Call {
         n,
-        &ids,
-        bytes,
-        &offsets,
-        &sizes,
-        minimum.value,
-        maximum.value,
-    );
-    true
+        sizes: &sizes,
+        minimum,
+        maximum,
+    };
+    run(with, &call, &ids[..bytes], &offsets);
+    Some(())
 }
 
 // The call and its answer.
-fn run(
-    with: &[u8],
-    n: usize,
-    ids: &[u8; 16384],
-    bytes: usize,
-    offsets: &[u32; 4099],
-    sizes: &[u64; 4098],
-    minimum: f64,
-    maximum: f64,
-)
-    requires { n ≤ 4097 }
-{
+fn run(with: &[&[u8]], call: &Call, bytes: &[u8], offsets: &[u32]) {
+    let n = call.n;
+    let ids = Ids {
+        bytes,
+        offsets: entries::front(offsets, withlines::length(with, b"offsets", n + 1)),
+    };
     let answer = cut::pick_relevance_split_index(
         withlines::count(with, b"n", n),
-        entries::bytes(ids, bytes),
-        entries::shorts(offsets, withlines::length(with, b"offsets", n + 1)),
-        entries::longs(sizes, withlines::length(with, b"sizes", n)),
-        minimum,
-        maximum,
+        &ids,
+        entries::front(call.sizes, withlines::length(with, b"sizes", n)),
+        call.minimum,
+        call.maximum,
     );
     match answer {
-        CutAnswer::Refused(number) => out::refused(number),
-        CutAnswer::Answered(chosen) => show(chosen),
+        Err(refusal) => out::refused(refusal.number()),
+        Ok(chosen) => show(chosen),
     }
 }
 

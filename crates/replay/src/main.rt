@@ -6,23 +6,35 @@
 
 mod cuts;
 mod filters;
-mod lines;
 mod similar;
 
-fn read_input(input: &mut [u8; 1048576]) -> usize {
-    io::read_full(0, input)
-}
+use std::alloc::AllocError;
+use tablecalls::{captures, merges};
+use textform::out;
+use textform::reading::Words;
+use withlines::cases;
 
-fn answer_input(input: &[u8; 1048576], n: usize) {
-    lines::answer_all(textform::entries::bytes(input, n));
-}
-
-fn main() {
-    let mut input = [0u8; 1048576];
-    let n = read_input(&mut input);
-    if n == 1048576 {
-        textform::out::text(b"! input\n");
-        return;
+// Runs a case, given the lines before it that spoil it. Nothing if it can't be read, or is beyond the limits. No line can spoil the last two.
+fn answer(mut words: Words, with: &[&[u8]]) -> Option<()> {
+    let call = words.next()?;
+    let tag = words.next()?;
+    match call {
+        b"cut" => cuts::answer(tag, words, with),
+        b"merge" => merges::answer(tag, words, with),
+        b"capture" => captures::answer(tag, words, with),
+        b"sim" if with.is_empty() => similar::answer(tag, words),
+        b"filter" if with.is_empty() => filters::answer(tag, words),
+        _ => None,
     }
-    answer_input(&input, n);
+}
+
+fn main(rt: HostRuntime) -> Result<(), AllocError> {
+    let alloc = rt.alloc();
+    let mut input = vec![in alloc; 0u8; 1048576]?;
+    let n = io::read_full(0, &mut input);
+    if n == input.len() {
+        out::text(b"! input\n");
+        return Ok(());
+    }
+    cases::answer_all(alloc, &input[..n], answer)
 }

@@ -68,19 +68,19 @@ turns_are b t on_entry fits area sorted h same order =
     ∙ ap (group_order (settings_of b)) long
 
 -- the chunk numbers cleared
-pub fresh_areas : (b : Given) (n : ℕ) (w : Work) (part : List ℕ) → n ≡ b.shared.n → b.shared.n ≤ length w.chunk_of
-    → part ≡ replicate (length (take n w.chunk_of)) 0
+pub fresh_areas : (b : Given) (n : ℕ) (w : Work) (cleared : List ℕ) → n ≡ b.shared.n → b.shared.n ≤ length w.chunk_of
+    → cleared ≡ replicate (length (take n w.chunk_of)) 0 ++ drop n w.chunk_of
     → Fresh b w (record {
-      chunk_of = part ++ drop n w.chunk_of;
+      chunk_of = cleared;
       group_of = w.group_of;
       name_of = w.name_of;
       size_of = w.size_of;
       bits_of = w.bits_of;
       mark_of = w.mark_of;
     })
-fresh_areas b n w part e h z =
+fresh_areas b n w cleared e h z =
     record {
-      numbers = cleared_modules n w.chunk_of part (omega arith) z ∙ ap (λ (k : ℕ). per_module k (λ m. 0) w.chunk_of) e;
+      numbers = z ∙ cleared_modules n w.chunk_of _ (omega arith) refl ∙ ap (λ (k : ℕ). per_module k (λ m. 0) w.chunk_of) e;
       groups = refl;
       names = refl;
       sizes = refl;

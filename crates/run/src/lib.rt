@@ -1,17 +1,29 @@
 // A run of Chunks over a build that has passed the tests: its chunks are made, and every area is written.
 #![tactic(auto)]
 
+ghost use Rattle.std.specs.Prelude.{◌≡◌, ◌≤◌, ◌++◌, length, take, drop, replicate};
 ghost use Rattle.run.specs.Made.{Making, ChunksMade};
 ghost use Rattle.run.specs.Finished.{Finishing, Finished};
 ghost use Rattle.run.specs.Ran.{Running, RunWritten};
+ghost use Rattle.emitting.specs.Emitted.{work, SameAreas};
 
+use emitting::ChunkAreas;
 use exec_order::listed::keep_eligible;
 use groups::convert::convert_groups_to_chunks;
+use ids::parts::Ids;
 use index::ChunkIdx;
 use linking::link;
-use lists::fill::clear_words;
 use options::Settings;
+use records::Records;
 use turns::into_priority_sorted_groups;
+
+// No module has a chunk number yet.
+fn clear_numbers(chunk_of: &mut [u32], n: usize)
+    requires { n ≤ length chunk_of.old }
+    ensures { chunk_of.new ≡ replicate (length (take n chunk_of.old)) 0 ++ drop n chunk_of.old }
+{
+    chunk_of[..n].fill(0);
+}
 
 // Makes the chunks, over the eligible modules in execution order. Answers how many there are.
 fn make_chunks(
@@ -24,75 +36,47 @@ fn make_chunks(
     shares: &[u32],
     tags: &[u64],
     bits: &[u64],
-    bytes: &[u8],
-    offsets: &[u32],
-    first: &[u32],
-    dependency: &[u32],
-    next: &[u32],
+    ids: &Ids,
+    records: &Records,
     order: &[u32],
     rank: &[u32],
     on_entry: u32,
     at: usize,
     scratch: &mut [u32],
-    chunk_of: &mut [u32],
-    group_of: &mut [u32],
-    name_of: &mut [u32],
-    size_of: &mut [f64],
-    bits_of: &mut [u64],
-    mark_of: &mut [u8],
+    areas: &mut ChunkAreas,
 ) -> usize
     requires { Making (record {
       settings = settings;
       g = g;
       asked = record { answers = answers.now; tags = tags.now; shares = shares.now };
       n = n;
-      tables = record { bytes = bytes.now; offsets = offsets.now; sizes = sizes.now; rank = rank.now };
+      tables = record { bytes = ids.now.bytes.now; offsets = ids.now.offsets.now; sizes = sizes.now; rank = rank.now };
       bits = bits.now;
-      walking = record { flags = flags.now; first = first.now; dependency = dependency.now; next = next.now; order = order.now };
+      walking = record { flags = flags.now; first = records.now.first.now; dependency = records.now.dependency.now; next = records.now.next.now; order = order.now };
     })
-        on_entry at (record {
-          chunk_of = chunk_of.old;
-          group_of = group_of.old;
-          name_of = name_of.old;
-          size_of = size_of.old;
-          bits_of = bits_of.old;
-          mark_of = mark_of.old;
-        }) scratch.old }
-    ensures { ChunksMade (record {
+        on_entry at (work areas.old) scratch.old }
+    ensures emitted { ChunksMade (record {
       settings = settings;
       g = g;
       asked = record { answers = answers.now; tags = tags.now; shares = shares.now };
       n = n;
-      tables = record { bytes = bytes.now; offsets = offsets.now; sizes = sizes.now; rank = rank.now };
+      tables = record { bytes = ids.now.bytes.now; offsets = ids.now.offsets.now; sizes = sizes.now; rank = rank.now };
       bits = bits.now;
       walking = record {
         flags = flags.now;
-        first = first.now;
-        dependency = dependency.now;
-        next = next.now;
+        first = records.now.first.now;
+        dependency = records.now.dependency.now;
+        next = records.now.next.now;
         order = order.now;
       };
     })
-        on_entry at result (record {
-          chunk_of = chunk_of.old;
-          group_of = group_of.old;
-          name_of = name_of.old;
-          size_of = size_of.old;
-          bits_of = bits_of.old;
-          mark_of = mark_of.old;
-        })
-        (record {
-          chunk_of = chunk_of.new;
-          group_of = group_of.new;
-          name_of = name_of.new;
-          size_of = size_of.new;
-          bits_of = bits_of.new;
-          mark_of = mark_of.new;
-        }) }
+        on_entry at result (work areas.old)
+        (work areas.new) }
+    ensures same { SameAreas areas.old areas.new }
 {
     let mut turns = [0u32; 64];
     into_priority_sorted_groups(settings, &mut turns[..g]);
-    clear_words(&mut chunk_of[..n]);
+    clear_numbers(areas.chunk_of, n);
     convert_groups_to_chunks(
         settings,
         &turns[..g],
@@ -103,22 +87,14 @@ fn make_chunks(
         shares,
         tags,
         bits,
-        bytes,
-        offsets,
-        first,
-        dependency,
-        next,
+        ids,
+        records,
         order,
         rank,
         ChunkIdx(on_entry),
         at,
         scratch,
-        chunk_of,
-        group_of,
-        name_of,
-        size_of,
-        bits_of,
-        mark_of,
+        areas,
     )
 }
 
@@ -145,10 +121,10 @@ fn finish(
         }) scratch.old scratch.new }
 {
     let end = at + made;
-    clear_words(&mut next_of[..n]);
-    clear_words(&mut first_of[at..end]);
+    next_of[..n].fill(0);
+    first_of[at..end].fill(0);
     link(order, chunk_of, on_entry, at, next_of, first_of);
-    clear_words(scratch);
+    scratch.fill(0);
 }
 
 // Makes the chunks of a build and writes every area. The modules are told in execution order and by their ranks among the ids; who is assigned
@@ -163,23 +139,15 @@ pub fn run(
     shares: &[u32],
     tags: &[u64],
     bits: &[u64],
-    bytes: &[u8],
-    offsets: &[u32],
-    first: &[u32],
-    dependency: &[u32],
-    next: &[u32],
+    ids: &Ids,
+    records: &Records,
     by_order: &[u32],
     rank: &[u32],
     on_entry: u32,
     at: usize,
-    chunk_of: &mut [u32],
+    areas: &mut ChunkAreas,
     next_of: &mut [u32],
     first_of: &mut [u32],
-    group_of: &mut [u32],
-    name_of: &mut [u32],
-    size_of: &mut [f64],
-    bits_of: &mut [u64],
-    mark_of: &mut [u8],
     scratch: &mut [u32],
 ) -> usize
     requires { Running (record {
@@ -187,61 +155,62 @@ pub fn run(
       g = g;
       asked = record { answers = answers.now; tags = tags.now; shares = shares.now };
       n = n;
-      tables = record { bytes = bytes.now; offsets = offsets.now; sizes = sizes.now; rank = rank.now };
+      tables = record { bytes = ids.now.bytes.now; offsets = ids.now.offsets.now; sizes = sizes.now; rank = rank.now };
       bits = bits.now;
-      walking = record { flags = flags.now; first = first.now; dependency = dependency.now; next = next.now; order = by_order.now };
+      walking = record { flags = flags.now; first = records.now.first.now; dependency = records.now.dependency.now; next = records.now.next.now; order = by_order.now };
     })
         on_entry at (record {
-          modules = record { chunk_of = chunk_of.old; next_of = next_of.old };
+          modules = record { chunk_of = areas.old.chunk_of.now; next_of = next_of.old };
           records = record {
             first_of = first_of.old;
-            group_of = group_of.old;
-            name_of = name_of.old;
-            size_of = size_of.old;
-            bits_of = bits_of.old;
-            mark_of = mark_of.old;
+            group_of = areas.old.group_of.now;
+            name_of = areas.old.name_of.now;
+            size_of = areas.old.size_of.now;
+            bits_of = areas.old.bits_of.now;
+            mark_of = areas.old.mark_of.now;
           };
           scratch = scratch.old;
         }) }
-    ensures { RunWritten (record {
+    ensures written { RunWritten (record {
       settings = settings;
       g = g;
       asked = record { answers = answers.now; tags = tags.now; shares = shares.now };
       n = n;
-      tables = record { bytes = bytes.now; offsets = offsets.now; sizes = sizes.now; rank = rank.now };
+      tables = record { bytes = ids.now.bytes.now; offsets = ids.now.offsets.now; sizes = sizes.now; rank = rank.now };
       bits = bits.now;
       walking = record {
         flags = flags.now;
-        first = first.now;
-        dependency = dependency.now;
-        next = next.now;
+        first = records.now.first.now;
+        dependency = records.now.dependency.now;
+        next = records.now.next.now;
         order = by_order.now;
       };
     })
         on_entry at result (record {
-          modules = record { chunk_of = chunk_of.old; next_of = next_of.old };
+          modules = record { chunk_of = areas.old.chunk_of.now; next_of = next_of.old };
           records = record {
             first_of = first_of.old;
-            group_of = group_of.old;
-            name_of = name_of.old;
-            size_of = size_of.old;
-            bits_of = bits_of.old;
-            mark_of = mark_of.old;
+            group_of = areas.old.group_of.now;
+            name_of = areas.old.name_of.now;
+            size_of = areas.old.size_of.now;
+            bits_of = areas.old.bits_of.now;
+            mark_of = areas.old.mark_of.now;
           };
           scratch = scratch.old;
         })
         (record {
-          modules = record { chunk_of = chunk_of.new; next_of = next_of.new };
+          modules = record { chunk_of = areas.new.chunk_of.now; next_of = next_of.new };
           records = record {
             first_of = first_of.new;
-            group_of = group_of.new;
-            name_of = name_of.new;
-            size_of = size_of.new;
-            bits_of = bits_of.new;
-            mark_of = mark_of.new;
+            group_of = areas.new.group_of.now;
+            name_of = areas.new.name_of.now;
+            size_of = areas.new.size_of.now;
+            bits_of = areas.new.bits_of.now;
+            mark_of = areas.new.mark_of.now;
           };
           scratch = scratch.new;
         }) }
+    ensures same { SameAreas areas.old areas.new }
 {
     let mut order = [0u32; 4096];
     let count = keep_eligible(flags, by_order, &mut order);
@@ -255,23 +224,16 @@ pub fn run(
         shares,
         tags,
         bits,
-        bytes,
-        offsets,
-        first,
-        dependency,
-        next,
+        ids,
+        records,
         &order[..count],
         rank,
         on_entry,
         at,
         scratch,
-        chunk_of,
-        group_of,
-        name_of,
-        size_of,
-        bits_of,
-        mark_of,
+        areas,
     );
+    let chunk_of = &mut *areas.chunk_of;
     finish(
         &order[..count],
         chunk_of,

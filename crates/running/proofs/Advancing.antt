@@ -14,8 +14,7 @@ use Rattle.grouping_laws.proofs.SetPlaces.{Placed}
 use Rattle.settling.specs.Modules.{Passed}
 use Rattle.settling.specs.Settled.{settled}
 use Rattle.settling.proofs.LoopSteps.{item_more}
-use Rattle.emitting.specs.Emitted.{Work}
-use Rattle.emitting.proofs.Chunk.{SameLengths}
+use Rattle.emitting.specs.Emitted.{Work, SameLengths}
 use Rattle.running.specs.State.{State, Advance, Begun}
 use Rattle.running.proofs.Tests.{few_modules}
 use Rattle.running.proofs.StateLeft.{left_room, state_lengths}

@@ -7,9 +7,9 @@ use mathlib.Core.Path.{◌≡◌, refl, sym, ap, ap₂, ◌∙◌, subst}
 use native.Mathlib.Omega.{arith}
 use lib.Ieee.{Float, lt}
 use lib.ListN.{length}
+use Rattle.std.specs.Bool.{then_some}
+use Rattle.std.specs.Prelude.{Option, None, Some}
 use Rattle.lists.proofs.Rearranged.{perm_mem}
-use Rattle.limit.specs.declared.Limit.{Limit}
-use Rattle.limit.specs.declared.Limit.TheVariants.{Absent, Given}
 use Rattle.whole.specs.Double.{sum_f64}
 use Rattle.cut.specs.Order.{sizes_in}
 use Rattle.options.specs.declared.Settings.{Settings}
@@ -41,7 +41,7 @@ use Rattle.linking.specs.Made.{AllMatch, none, more}
 use Rattle.items.specs.declared.convert.Limits.{Limits}
 use Rattle.running.specs.Fits.{ItemFits, HeadOf, LimitsOf}
 use Rattle.pieces.specs.Chunks.{chunk_of}
-use Rattle.items.specs.Turn.{Tables, in_pieces, over_if, emitted_over, emitted_within, emitted_unless, emitted_from}
+use Rattle.items.specs.Turn.{Tables, in_pieces, emitted_over, emitted_within, emitted_unless, emitted_from}
 use Rattle.running.proofs.ModulesAt.{id_at_lem, size_at, size_of_modules, places_exact}
 use Rattle.running.proofs.ByRanks.{by_ranks}
 use Rattle.running.proofs.ChunkMatches.{SamePlaces, same_self, matches, all_match}
@@ -129,13 +129,13 @@ module _ (b : goal.Given) (t : Tables) (bits : List ℕ) (fits : ItemFits b t bi
         ∙ ap (map emit) (pieces_map (module_at b) (cutting_of r tree maximum) cutting (in_id_order tree places) (written (in_id_order tree places) (λ p m. m)))
         ∙ map-map emit (modules_at b) pieces
 
-    pieces_ended : Standing r tree places → r.max_size ≡ Given maximum → ended ≡ map piece_chunk pieces
+    pieces_ended : Standing r tree places → r.max_size ≡ Some maximum → ended ≡ map piece_chunk pieces
     unfolding chunks_from
     pieces_ended s limit =
         ap (chunks_from tree i) (ends_pieces r tree maximum limit places s)
         ∙ map-map (λ piece. chunk_from tree (with_places piece i)) (λ piece. among piece places) pieces
 
-    in_pieces_lem : Standing r tree places → r.max_size ≡ Given maximum
+    in_pieces_lem : Standing r tree places → r.max_size ≡ Some maximum
         → AllMatch b (in_pieces tables head r.min_size maximum (modules_at b places)) ended
     in_pieces_lem s limit =
         subst (λ (es : List Emission). AllMatch b es ended) (sym pieces_emitted)
@@ -149,18 +149,18 @@ module _ (b : goal.Given) (t : Tables) (bits : List ℕ) (fits : ItemFits b t bi
         (mark_map (module_at b) (cutting_of r tree maximum) cutting side (written side (part_mem part))
         ∙ sym (piece_mark r tree maximum limit places s.exact s.ascend side part)))))
 
-    by_size : Standing r tree places → r.max_size ≡ Given maximum → (large : Bool) → lt maximum (item_size r tree places) ≡ large
-        → AllMatch b (emitted_over (over_if large maximum) tables head r.min_size (modules_at b places)) ended
+    by_size : Standing r tree places → r.max_size ≡ Some maximum → (large : Bool) → lt maximum (item_size r tree places) ≡ large
+        → AllMatch b (emitted_over (then_some large maximum) tables head r.min_size (modules_at b places)) ended
     by_size s limit true e = in_pieces_lem s limit
     by_size s limit false e = as_whole (ends_small r tree maximum limit places s.some s.reaches e) (small_mark r tree maximum limit places e)
 
   -- ---- the limits
 
-  by_maximum : Standing r tree places → (limit : Limit) → r.max_size ≡ limit
+  by_maximum : Standing r tree places → (limit : Option Float) → r.max_size ≡ limit
       → AllMatch b (emitted_within limit tables head r.min_size (modules_at b places)) ended
-  by_maximum s Absent e = as_whole (ends_unlimited r tree places s.some s.reaches e) (unlimited_mark r tree places e)
-  by_maximum s (Given maximum) e =
-      subst (λ (x : Float). AllMatch b (emitted_over (over_if (lt maximum x) maximum) tables head r.min_size (modules_at b places)) ended) (sym total)
+  by_maximum s None e = as_whole (ends_unlimited r tree places s.some s.reaches e) (unlimited_mark r tree places e)
+  by_maximum s (Some maximum) e =
+      subst (λ (x : Float). AllMatch b (emitted_over (then_some (lt maximum x) maximum) tables head r.min_size (modules_at b places)) ended) (sym total)
       (by_size maximum s e (lt maximum (item_size r tree places)) refl)
 
   by_minimum : 1 ≤ length places → (small : Bool) → lt (item_size r tree places) r.min_size ≡ small

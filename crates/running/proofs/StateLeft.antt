@@ -14,8 +14,7 @@ use Rattle.settling.specs.Settled.{left_of}
 use Rattle.settling.proofs.SettledChunks.{SettledChunks, settled_filled, settled_placed}
 use Rattle.settling.proofs.Taken.{left_mem}
 use Rattle.settling.proofs.TurnsOfItem.{left_ascends}
-use Rattle.emitting.specs.Emitted.{Work}
-use Rattle.emitting.proofs.Chunk.{SameLengths}
+use Rattle.emitting.specs.Emitted.{Work, SameLengths}
 use Rattle.linking.specs.Made.{HasRoom}
 use Rattle.linking.proofs.ChunkModules.{places_distinct}
 use Rattle.linking.proofs.MadeRead.{made_lengths}

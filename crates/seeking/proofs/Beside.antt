@@ -1,5 +1,5 @@
 -- The words beside a list: what a block of them rules out, and that they stay the first words where a number is taken off or a row changes.
-use Prim.Native.Nat.{ℕ, zero, suc, ◌+◌, ◌*◌, ◌-◌, ◌≤◌, ◌<◌}
+use Prim.Native.Nat.{ℕ, zero, suc, ◌+◌, ◌*◌, ◌-◌, ◌≤◌, ◌<◌, min}
 use mathlib.Core.Bool.{Bool, true, false, cond}
 use mathlib.Core.List.{List, ◌++◌, map}
 use mathlib.Core.Path.{◌≡◌, refl, sym, ap, ◌∙◌}
@@ -18,6 +18,14 @@ use Rattle.seeking.proofs.Kept.{by_number}
 use Rattle.seeking.proofs.Removing.{length_without, without_before, without_after}
 
 -- ---- the fewest of a block
+
+-- the lower of two is the one that is below the other
+pub min_fewer : (a b : ℕ) → min a b ≡ fewer a b
+min_fewer a b = go (ltb a b) refl
+  where
+    go : (t : Bool) → ltb a b ≡ t → min a b ≡ fewer a b
+    go true e = let l = ltb-true a b e in let m : min a b ≡ a = omega arith in m ∙ sym (ap (λ t. cond t a b) e)
+    go false e = let l = ltb-false a b e in let m : min a b ≡ b = omega arith in m ∙ sym (ap (λ t. cond t a b) e)
 
 fewer_least : (a b : ℕ) → (fewer a b ≤ a) × (fewer a b ≤ b)
 fewer_least a b = go (ltb a b) refl

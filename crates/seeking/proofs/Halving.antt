@@ -1,46 +1,38 @@
--- A number of a list that ascends is looked for by halves.
+-- A number of a list that ascends is found where it is searched for.
 use Prim.Native.Nat.{ℕ, ◌≤◌, ◌<◌}
 use mathlib.Core.Bool.{Bool, true, false}
-use mathlib.Core.List.{List}
+use mathlib.Core.List.{List, Memᴰ}
 use mathlib.Core.Path.{◌≡◌, refl, ap}
 use native.Mathlib.Omega.{arith}
 use borrow.Author.Tests.{ltb-true, ltb-false}
 use lib.Dec.{ltb}
 use lib.ListN.{length, get_or}
-use Rattle.seeking.specs.Listed.{Ascends}
-use Rattle.seeking.proofs.Kept.{by_number}
+use Rattle.std.specs.Prelude.{Result, Ok, Err, MatchResult}
+use Rattle.std.specs.Ordering.{nat_cmp}
+use Rattle.std.specs.List.Sorted.{IsBinarySearchResult}
+use Rattle.std.proofs.lemmas.List.Sorted.{searched}
+use Rattle.lists.proofs.Position.{mem_get_or}
+use Rattle.seeking.specs.Listed.{Ascends, StandsAt}
 
--- the number stands at one of the places from `low` up to `high`
-pub record Between (l : List ℕ) (number low high : ℕ) : Type 0 where
-  pub place : ℕ
-  pub its : get_or l place 0 ≡ number
-  pub from : low ≤ place
-  pub below : place < high
-  pub most : high ≤ length l
+rises : (l : List ℕ) → Ascends l → (i j : ℕ) → i ≤ j → j < length l → get_or l i 0 ≤ get_or l j 0
+rises l up i j h inside = go (ltb i j) refl
+  where
+    go : (t : Bool) → ltb i j ≡ t → get_or l i 0 ≤ get_or l j 0
+    go true e = omega (arith, up i j (ltb-true i j e) inside)
+    go false e =
+        let below : j ≤ i = ltb-false i j e in
+        let same : i ≡ j = omega arith in
+        omega (arith, ap (λ k. get_or l k 0) same)
 
-module _ (l : List ℕ) (number : ℕ) (up : Ascends l) (low high : ℕ) (b : Between l number low high) (middle : ℕ) (above : low < middle)
-    (under : middle < high) where
-  pub lower_half : number < get_or l middle 0 → Between l number low middle
-  lower_half less = record { place = b.place; its = b.its; from = b.from; below = go (ltb b.place middle) refl; most = omega (arith, b.most) }
-    where
-      inside : b.place < length l
-      inside = omega (arith, b.below, b.most)
+pub found_place : (l : List ℕ) (number : ℕ) → Ascends l → Memᴰ number l → (r : Result ℕ ℕ) → IsBinarySearchResult (λ y. nat_cmp y number) l r
+    → MatchResult r (λ i. StandsAt l number i) (λ i. ⊥)
+found_place l number up m (Ok i) s =
+    let t = searched l number (Ok i) s (rises l up) in record { inside = t.0; its = t.1 }
+found_place l number up m (Err i) s = go (ltb p.0 i) refl
+  where
+    p : (k : ℕ) × (k < length l) × (get_or l k 0 ≡ number)
+    p = mem_get_or 0 m
 
-      not_past : (middle < b.place → ⊥)
-      not_past q = omega (arith, up middle b.place q inside, b.its)
-
-      not_there : (b.place ≡ middle → ⊥)
-      not_there e = let q = ap (λ i. get_or l i 0) e in omega (arith, q, b.its)
-
-      go : (t : Bool) → ltb b.place middle ≡ t → b.place < middle
-      go true e = ltb-true b.place middle e
-      go false e =
-          let g = ltb-false b.place middle e in
-          by_number b.place middle (λ q. absurd (not_there q)) (λ n. absurd (not_past (omega arith)))
-
-  pub upper_half : get_or l middle 0 ≤ number → Between l number middle high
-  upper_half least = record { place = b.place; its = b.its; from = go (ltb b.place middle) refl; below = b.below; most = b.most }
-    where
-      go : (t : Bool) → ltb b.place middle ≡ t → middle ≤ b.place
-      go true e = absurd (omega (arith, up b.place middle (ltb-true b.place middle e) (omega (arith, b.most)), b.its))
-      go false e = ltb-false b.place middle e
+    go : (t : Bool) → ltb p.0 i ≡ t → ⊥
+    go true e = omega (arith, (searched l number (Err i) s (rises l up)).1 p.0 (ltb-true p.0 i e), p.2)
+    go false e = omega (arith, (searched l number (Err i) s (rises l up)).2 p.0 (ltb-false p.0 i e) p.1, p.2)

@@ -2,10 +2,11 @@
 use Prim.Native.Nat.{ℕ, ◌+◌, ◌*◌, ◌^◌, ◌≤◌, ◌<◌}
 use mathlib.Core.Bool.{Bool, true, false, cond, true≢false}
 use mathlib.Core.List.{List}
-use mathlib.Core.Option.{some, none}
+use mathlib.Core.Option.{some}
 use mathlib.Core.Path.{◌≡◌, refl, sym, ap, ◌∙◌}
 use native.Mathlib.Omega.{arith}
 use lib.ListN.{length, get_or}
+use Rattle.std.specs.Prelude.{Option, None, Some}
 use Rattle.bitset.specs.Entries.{word_at, row_of, differing}
 use Rattle.bitset.specs.declared.entries.BitSet.{BitSet}
 use Rattle.bitset.proofs.Words.{Words, row_reads, row_words}
@@ -13,39 +14,26 @@ use Rattle.bitset.proofs.Differing.{differing_ones}
 use Rattle.joins.specs.Candidate.{comes_first, ones_apart}
 use Rattle.joins.specs.declared.candidate.Candidate.{Candidate}
 use Rattle.seeking.specs.Search.{found_of, gives_way, looked, Searchable}
-use Rattle.seeking.specs.declared.search.Best.{Best}
 
-abbrev new_best : Candidate → Best
-new_best x = record { found = true; candidate = x }
+-- ---- the best so far, and one more x
 
--- ---- by whether there is a best
+pub stays : (b : Option Candidate) (x : Candidate) → gives_way b x ≡ false → (t : Bool) → found_of b ≡ looked comes_first t (found_of b) x
+unfolding gives_way looked
+stays None x e t = absurd (true≢false e)
+stays (Some c) x e true = ap some (ap (λ b. cond b x c) (sym e))
+stays (Some c) x e false = refl
 
-module _ (c x : Candidate) where
-  stays_of : (f : Bool) → cond f (comes_first x c) true ≡ false → (t : Bool) → cond f (some c) none ≡ looked comes_first t (cond f (some c) none) x
-  unfolding looked
-  stays_of true e true = ap some (ap (λ b. cond b x c) (sym e))
-  stays_of true e false = refl
-  stays_of false e t = absurd (true≢false e)
+pub passed_over : (b : Option Candidate) (x : Candidate) (t : Bool) → t ≡ false → found_of b ≡ looked comes_first t (found_of b) x
+unfolding looked
+passed_over b x t e = ap (λ t. looked comes_first t (found_of b) x) (sym e)
 
-  takes_of : (f : Bool) → cond f (comes_first x c) true ≡ true → some x ≡ looked comes_first true (cond f (some c) none) x
-  unfolding looked
-  takes_of true e = ap some (ap (λ b. cond b x c) (sym e))
-  takes_of false e = refl
+taken : (b : Option Candidate) (x : Candidate) → gives_way b x ≡ true → some x ≡ looked comes_first true (found_of b) x
+unfolding gives_way looked
+taken None x e = refl
+taken (Some c) x e = ap some (ap (λ b. cond b x c) (sym e))
 
--- ---- the best so far b, and one more x
-
-module _ (b : Best) (x : Candidate) where
-  pub stays : gives_way b x ≡ false → (t : Bool) → found_of b ≡ looked comes_first t (found_of b) x
-  unfolding found_of gives_way
-  stays e t = stays_of b.candidate x b.found e t
-
-  pub passed_over : (t : Bool) → t ≡ false → found_of b ≡ looked comes_first t (found_of b) x
-  unfolding looked
-  passed_over t e = ap (λ t. looked comes_first t (found_of b) x) (sym e)
-
-  pub takes_over : gives_way b x ≡ true → (t : Bool) → t ≡ true → found_of (new_best x) ≡ looked comes_first t (found_of b) x
-  unfolding found_of gives_way
-  takes_over e t q = takes_of b.candidate x b.found e ∙ ap (λ t. looked comes_first t (found_of b) x) (sym q)
+pub takes_over : (b : Option Candidate) (x : Candidate) → gives_way b x ≡ true → (t : Bool) → t ≡ true → some x ≡ looked comes_first t (found_of b) x
+takes_over b x e t q = taken b x e ∙ ap (λ t. looked comes_first t (found_of b) x) (sym q)
 
 -- ---- first words
 

@@ -1,21 +1,23 @@
 -- The search for a join: the best so far, and one more that is looked at.
 use Rattle.std.specs.Prelude.{ℕ, ◌*◌, ◌^◌, ◌<◌, ◌≤◌, Bool, true, false, cond, List, ◌≡◌, length, get_or}
+use Rattle.std.specs.Prelude as std
 use Rattle.std.proofs.Math.Option.{Option, none, some}
 use Rattle.lists.specs.Least.{earlier}
 use Rattle.bitset.specs.declared.entries.BitSet.{BitSet}
 use Rattle.joins.specs.Candidate.{comes_first, target_at}
 use Rattle.joins.specs.declared.candidate.Candidate.{Candidate}
 use Rattle.seeking.specs.Listed.{FirstWords}
-use Rattle.seeking.specs.declared.search.Best.{Best}
 
--- what a search has found
-unfoldable pub found_of : Best → Option Candidate
-found_of b = cond b.found (some b.candidate) none
+-- what a search has found, as an option of the definitions
+abbrev pub found_of : std.Option Candidate → Option Candidate
+found_of std.None = none
+found_of (std.Some best) = some best
 
 -- one more takes its place
-unfoldable pub gives_way : Best → Candidate → Bool
+unfoldable pub gives_way : std.Option Candidate → Candidate → Bool
 unfolding comes_first
-gives_way b x = cond b.found (comes_first x b.candidate) true
+gives_way std.None x = true
+gives_way (std.Some best) x = comes_first x best
 
 -- The best so far, and one more: passed over unless it is among those that are looked for.
 unfoldable pub looked : {A : Type 0} → (A → A → Bool) → Bool → Option A → A → Option A

@@ -30,10 +30,7 @@ fn block_end(start: usize, count: usize) -> usize
     requires { start < count }
     ensures { (start < result) × (result ≤ count) × (result ≤ start + 16) × (result < start + 16 → result ≡ count) }
 {
-    if count - start < 16 {
-        return count;
-    }
-    start + 16
+    start + (count - start).min(16)
 }
 
 // The head of a block: its numbers looked through one after the other.
@@ -44,10 +41,8 @@ fn head_of(sizes: &[u64], threshold: f64, block: usize) -> usize
     let start = 16 * block;
     let end = block_end(start, sizes.len());
     let mut best = start;
-    let mut i = start + 1;
-    while i < end {
+    for i in start + 1..end {
         best = ahead(sizes, threshold, best, i);
-        i = i + 1;
     }
     best
 }
@@ -68,10 +63,7 @@ pub fn fill_heads(heads: &mut [u32], sizes: &[u64], threshold: f64)
         × (16 * length heads.old < length sizes.now + 16) }
     ensures { Heads threshold sizes.now heads.new }
 {
-    let mut j = 0;
-    while j < heads.len() {
-        let head = head_of(sizes, threshold, j);
-        heads[j] = head as u32;
-        j = j + 1;
+    for (j, head) in heads.iter_mut().enumerate() {
+        *head = head_of(sizes, threshold, j) as u32;
     }
 }

@@ -3,25 +3,19 @@ ghost use Rattle.std.specs.Prelude.{◌≡◌, ◌-◌, ◌<◌, length, take};
 ghost use mathlib.Core.List.{Memᴰ};
 ghost use Rattle.seeking.specs.Listed.{Ascends, StandsAt, without, Removed};
 
-// The place of a number: the places that it can have are halved until one is left.
+// The place of a number that the list has.
 pub fn place_of(list: &[u32], number: u32) -> usize
     requires { Ascends list.now × Memᴰ number list.now }
     ensures { StandsAt list.now number result }
 {
-    let mut low = 0;
-    let mut high = list.len();
-    while 1 < high - low {
-        let middle = low + (high - low) / 2;
-        if number < list[middle] {
-            high = middle;
-        } else {
-            low = middle;
-        }
+    match list.binary_search(&number) {
+        Ok(place) => place,
+        Err(place) => place,
     }
-    low
 }
 
-// Takes what stands at a place off a list of numbers: what follows moves up by one. The last place keeps what it had.
+// Takes what stands at a place off a list of numbers: what follows moves up by one. The last place keeps what it had. By a loop, and of each type by
+// itself: `copy_within` is a `memmove`, which hosts don't supply.
 fn close_numbers(list: &mut [u32], place: usize)
     requires { place < length list.old }
     ensures { take (length list.old - 1) list.new ≡ without place list.old }
@@ -30,7 +24,7 @@ fn close_numbers(list: &mut [u32], place: usize)
     let mut i = place;
     while i < last {
         list[i] = list[i + 1];
-        i = i + 1;
+        i += 1;
     }
 }
 
@@ -43,7 +37,7 @@ fn close_words(words: &mut [u64], place: usize)
     let mut i = place;
     while i < last {
         words[i] = words[i + 1];
-        i = i + 1;
+        i += 1;
     }
 }
 

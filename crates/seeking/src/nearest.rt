@@ -8,7 +8,6 @@ ghost use Rattle.joins.specs.Candidate.{comes_first, target_at};
 ghost use Rattle.seeking.specs.Listed.{fewest, fewest_of_blocks};
 ghost use Rattle.seeking.specs.Search.{found_of, Searchable, OfList, Nearer};
 
-use crate::search::Best;
 use crate::words::fill_fewest;
 use bitset::entries::BitSet;
 use joins::candidate::Candidate;
@@ -50,10 +49,8 @@ fn or_places(
     ensures { Nearer there.now sizes.now bits.now wanted best result from end }
 {
     let mut nearest = best;
-    let mut i = from;
-    while i < end {
+    for i in from..end {
         nearest = or_place(there, words, sizes, bits, i, nearest, wanted);
-        i = i + 1;
     }
     nearest
 }
@@ -97,10 +94,8 @@ fn or_blocks(
     ensures { Nearer there.now sizes.now bits.now wanted best result (16 * from) (16 * end) }
 {
     let mut nearest = best;
-    let mut j = from;
-    while j < end {
+    for j in from..end {
         nearest = or_block(there, words, sizes, bits, j, few[j] as u32, nearest, wanted);
-        j = j + 1;
     }
     nearest
 }
@@ -144,11 +139,7 @@ fn block_count(count: usize, distance: u32) -> usize
     if 64 <= distance {
         return 0;
     }
-    let blocks = count / 16;
-    if 256 < blocks {
-        return 256;
-    }
-    blocks
+    (count / 16).min(256)
 }
 
 // The subgroup that the seeker joins: of those listed the nearest.
@@ -158,19 +149,15 @@ pub fn find_target(
     sizes: &[u64],
     bits: &[u64],
     wanted: BitSet,
-) -> Best
+) -> Option<Candidate>
     requires { Searchable there.now words.now sizes.now bits.now }
     ensures { found_of result ≡ least comes_first (map (target_at sizes.now bits.now wanted) there.now) }
 {
     if there.len() == 0 {
-        return Best::nothing();
+        return None;
     }
     let one = Candidate::target_at(sizes, bits, there[0] as usize, wanted);
     let blocks = block_count(there.len(), one.distance);
     let mut few = [0u8; 256];
-    let nearest = nearest_listed(there, words, &mut few[..blocks], sizes, bits, wanted);
-    Best {
-        found: true,
-        candidate: nearest,
-    }
+    Some(nearest_listed(there, words, &mut few[..blocks], sizes, bits, wanted))
 }

@@ -2,7 +2,7 @@
 ghost use Rattle.std.specs.Prelude.{◌≡◌, ◌+◌, ◌*◌, ◌-◌, ◌≤◌, ◌<◌, length, get_or};
 ghost use mathlib.Core.List.{map, Memᴰ};
 ghost use Rattle.lists.specs.Range.{range};
-ghost use Rattle.seeking.specs.Listed.{Ascends, fewer, fewest, fewest_of_blocks, Rewritten};
+ghost use Rattle.seeking.specs.Listed.{Ascends, fewest, fewest_of_blocks, Rewritten};
 
 use crate::list::place_of;
 
@@ -11,10 +11,8 @@ pub fn fill_words(words: &mut [u64], bits: &[u64])
     requires { 4 * length words.old ≤ length bits.now }
     ensures { words.new ≡ map (λ i. get_or bits.now (4 * i) 0) (range 0 (length words.old)) }
 {
-    let mut i = 0;
-    while i < words.len() {
-        words[i] = bits[4 * i];
-        i = i + 1;
+    for (i, word) in words.iter_mut().enumerate() {
+        *word = bits[4 * i];
     }
 }
 
@@ -28,15 +26,6 @@ pub fn rewrite_word(words: &mut [u64], there: &[u32], bits: &[u64], number: usiz
     words[place] = bits[4 * number];
 }
 
-fn fewer(a: u32, b: u32) -> u32
-    ensures { result ≡ fewer a b }
-{
-    if a < b {
-        return a;
-    }
-    b
-}
-
 // The fewest entries that tell one of 16 words from the wanted one. All 16 are counted, with no branch on what they hold, so that several are
 // counted in one step.
 fn fewest_of_block(words: &[u64], from: usize, wanted: u64) -> u32
@@ -44,10 +33,8 @@ fn fewest_of_block(words: &[u64], from: usize, wanted: u64) -> u32
     ensures { result ≡ fewest words.now wanted from 16 }
 {
     let mut least = 64;
-    let mut i = 0;
-    while i < 16 {
-        least = fewer(u64::count_ones(wanted ^ words[from + i]), least);
-        i = i + 1;
+    for i in 0..16 {
+        least = (wanted ^ words[from + i]).count_ones().min(least);
     }
     least
 }
@@ -59,15 +46,12 @@ pub fn fill_fewest(few: &mut [u8], words: &[u64], wanted: u64) -> usize
 {
     let mut least = 64;
     let mut first = 0;
-    let mut j = 0;
-    while j < few.len() {
-        let block = j;
-        let here = fewest_of_block(words, 16 * block, wanted);
-        few[block] = here as u8;
-        j = j + 1;
+    for (j, fewest) in few.iter_mut().enumerate() {
+        let here = fewest_of_block(words, 16 * j, wanted);
+        *fewest = here as u8;
         if here < least {
             least = here;
-            first = block;
+            first = j;
         }
     }
     first

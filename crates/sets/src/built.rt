@@ -6,16 +6,15 @@ ghost use Rattle.sets.specs.Built.{starts_of, Placed, SetReady, SetBuilt};
 use crate::captured::capture_all;
 use crate::gathered::gather_found;
 use lists::store::store_bytes;
+use records::Records;
 
 // Writes the modules that take part: those at the places of a run.
 pub fn store_starts(run: &[u32], order: &[u32], set: &mut [u32])
     requires { Placed run.now order.now × (length run.now ≡ length set.old) }
     ensures { set.new ≡ starts_of order.now run.now }
 {
-    let mut i = 0;
-    while i < run.len() {
-        set[i] = order[(run[i] % 4096) as usize];
-        i = i + 1;
+    for (i, number) in run.iter().enumerate() {
+        set[i] = order[(*number % 4096) as usize];
     }
 }
 
@@ -24,9 +23,7 @@ pub fn store_starts(run: &[u32], order: &[u32], set: &mut [u32])
 pub fn build_set(
     recursive: bool,
     flags: &[u8],
-    first: &[u32],
-    dependency: &[u32],
-    next: &[u32],
+    records: &Records,
     order: &[u32],
     place: &[u32],
     run: &[u32],
@@ -35,9 +32,9 @@ pub fn build_set(
     followed: &mut [u8],
     set: &mut [u32],
 ) -> usize
-    requires { SetReady flags.now first.now dependency.now next.now order.now place.now run.now marks.old queue.old
+    requires { SetReady flags.now records.now.first.now records.now.dependency.now records.now.next.now order.now place.now run.now marks.old queue.old
         followed.old set.old }
-    ensures set_built { SetBuilt recursive flags.now first.now dependency.now next.now
+    ensures set_built { SetBuilt recursive flags.now records.now.first.now records.now.dependency.now records.now.next.now
         order.now run.now result set.new }
     ensures marks_after { (marks.new ≡ replicate (length flags.now) 0) × (followed.new ≡ unfollowed) }
 {
@@ -46,16 +43,7 @@ pub fn build_set(
     if !recursive {
         return count;
     }
-    let all = capture_all(
-        flags,
-        first,
-        dependency,
-        next,
-        &set[..count],
-        marks,
-        queue,
-        followed,
-    );
+    let all = capture_all(flags, records, &set[..count], marks, queue, followed);
     let found = all.found;
     let alone = all.started == found;
     let size = gather_found(alone, count, order, place, &queue[..found], marks, set);

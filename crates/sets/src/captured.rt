@@ -6,6 +6,7 @@ ghost use Rattle.walk.specs.Walk.{visited};
 ghost use Rattle.sets.specs.Captured.{StartsReady, AllReady, AllFound};
 
 use index::ModuleIdx;
+use records::Records;
 use walk::walk::{visit, walk};
 
 // Marks each start and puts it on the list. Answers how many are on it.
@@ -15,10 +16,8 @@ fn mark_starts(flags: &[u8], starts: &[u32], marks: &mut [u8], queue: &mut [u32]
         starts.now ≡ record { marks = marks.new; queue = queue.new; tail = result } }
 {
     let mut tail = 0;
-    let mut i = 0;
-    while i < starts.len() {
-        tail = visit(flags, marks, queue, tail, ModuleIdx(starts[i]));
-        i = i + 1;
+    for start in starts {
+        tail = visit(flags, marks, queue, tail, ModuleIdx(*start));
     }
     tail
 }
@@ -33,22 +32,18 @@ pub struct Found {
 // Marks all that is reached from the starts, where nothing is marked yet.
 pub fn capture_all(
     flags: &[u8],
-    first: &[u32],
-    dependency: &[u32],
-    next: &[u32],
+    records: &Records,
     starts: &[u32],
     marks: &mut [u8],
     queue: &mut [u32],
     followed: &mut [u8],
 ) -> Found
-    requires { AllReady flags.now first.now dependency.now next.now starts.now marks.old queue.old followed.old }
-    ensures all_found { AllFound flags.now first.now dependency.now next.now
+    requires { AllReady flags.now records.now.first.now records.now.dependency.now records.now.next.now starts.now marks.old queue.old followed.old }
+    ensures all_found { AllFound flags.now records.now.first.now records.now.dependency.now records.now.next.now
         starts.now result.started (record { marks = marks.new; queue = queue.new; tail = result.found }) }
     ensures followed_after { followed.new ≡ unfollowed }
 {
     let started = mark_starts(flags, starts, marks, queue);
-    let found = walk(
-        flags, first, dependency, next, marks, queue, followed, started,
-    );
+    let found = walk(flags, records, marks, queue, followed, started);
     Found { started, found }
 }

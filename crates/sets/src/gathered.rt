@@ -11,10 +11,8 @@ pub fn store_places(order: &[u32], place: &mut [u32])
     requires { PlacesFree order.now place.old }
     ensures { PlacesAre order.now place.new }
 {
-    let mut i = 0;
-    while i < order.len() {
-        place[order[i] as usize] = i as u32;
-        i = i + 1;
+    for (i, m) in order.iter().enumerate() {
+        place[*m as usize] = i as u32;
     }
 }
 
@@ -23,11 +21,9 @@ fn mark_blocks(list: &[u32], place: &[u32], blocks: &mut [u8])
     requires { BlocksReady list.now place.now blocks.old }
     ensures { blocks.new ≡ stored 1 (map (block_of place.now) list.now) blocks.old }
 {
-    let mut i = 0;
-    while i < list.len() {
-        let at = place[list[i] as usize];
+    for m in list {
+        let at = place[*m as usize];
         blocks[(at / 64) as usize] = 1;
-        i = i + 1;
     }
 }
 
@@ -38,6 +34,7 @@ fn gather_marked(order: &[u32], marks: &[u8], blocks: &[u8], set: &mut [u32]) ->
 {
     let mut count = 0;
     let mut i = 0;
+    // The index jumps over blocks, which no `for` over the order says more plainly.
     while i < order.len() {
         if blocks[i / 64] == 0 {
             i = i / 64 * 64 + 64;
@@ -46,9 +43,9 @@ fn gather_marked(order: &[u32], marks: &[u8], blocks: &[u8], set: &mut [u32]) ->
         let m = order[i];
         set[count] = m;
         if marks[m as usize] == 1 {
-            count = count + 1;
+            count += 1;
         }
-        i = i + 1;
+        i += 1;
     }
     count
 }
@@ -69,14 +66,12 @@ fn keep_marked(marks: &[u8], list: &mut [u32]) -> usize
     ensures { Holds (marked_in marks.now list.old) result list.new }
 {
     let mut count = 0;
-    let mut i = 0;
-    while i < list.len() {
+    for i in 0..list.len() {
         let m = list[i];
         list[count] = m;
         if marks[m as usize] == 1 {
-            count = count + 1;
+            count += 1;
         }
-        i = i + 1;
     }
     count
 }
@@ -95,7 +90,7 @@ pub fn gather_found(
     requires { FoundReady order.now place.now list.now marks.now set.old × FrontReady alone count order.now marks.now set.old }
     ensures { Holds (marked_in marks.now order.now) result set.new }
 {
-    if list.len() == 0 {
+    if list.is_empty() {
         return 0;
     }
     if alone {

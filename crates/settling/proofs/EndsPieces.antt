@@ -7,13 +7,13 @@ use mathlib.Core.Path.{◌≡◌, refl, sym, ap, ap₂, ◌∙◌, subst}
 use native.Mathlib.Omega.{arith}
 use lib.Ieee.{Float, nan, inf, fin, is_nan, lt, le}
 use lib.ListN.{length, take, drop, length-take, length-drop}
+use Rattle.std.specs.Prelude.{Some}
 use Rattle.lists.specs.Elem.{elem}
 use Rattle.lists.specs.Sum.{sum}
 use Rattle.lists.proofs.Elem.{mem_elem}
 use Rattle.lists.proofs.Members.{map_same}
 use Rattle.lists.proofs.Pairs.{pairs_keep}
 use Rattle.lists.proofs.Rearranged.{perm_length}
-use Rattle.limit.specs.declared.Limit.TheVariants.{Given}
 use Rattle.whole.specs.Double.{to_f64, sum_f64}
 use Rattle.whole.proofs.AnyDouble.{whole_below, whole_below_lem, at_least_not_below}
 use Rattle.whole.proofs.Exact.{sum_exact}
@@ -112,7 +112,7 @@ module _ (r : Settings) (tree : Tree) (places : List ℕ) (s : Standing r tree p
 
 -- ---- the law
 
-module _ (r : Settings) (tree : Tree) (maximum : Float) (limit : r.max_size ≡ Given maximum) where
+module _ (r : Settings) (tree : Tree) (maximum : Float) (limit : r.max_size ≡ Some maximum) where
   abbrev c : Cutting
   c = cutting_of r tree maximum
 

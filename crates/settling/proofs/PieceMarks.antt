@@ -6,9 +6,8 @@ use mathlib.Core.Path.{◌≡◌, refl, sym, ap, ap₂, ◌∙◌}
 use lib.Dec.{ltb}
 use lib.Ieee.{Float, lt}
 use lib.ListN.{length, length-map}
+use Rattle.std.specs.Prelude.{Option, None, Some}
 use Rattle.lists.proofs.Rearranged.{perm_length}
-use Rattle.limit.specs.declared.Limit.{Limit}
-use Rattle.limit.specs.declared.Limit.TheVariants.{Absent, Given}
 use Rattle.cut.specs.Cut.{Chosen, fewer_than_two, none_allowed, allowed_cuts, pick, cut_of}
 use Rattle.cut.specs.declared.candidate.Candidate.{Candidate}
 use Rattle.options.specs.declared.Settings.{Settings}
@@ -36,15 +35,15 @@ why_cut count maximum [] = by_count (ltb count 2)
 why_cut count maximum (c ∷ cuts) = refl
 
 module _ (r : Settings) (tree : Tree) where
-  pub unlimited_mark : (places : List ℕ) → r.max_size ≡ Absent → mark_of r tree places ≡ 0
+  pub unlimited_mark : (places : List ℕ) → r.max_size ≡ None → mark_of r tree places ≡ 0
   unfolding mark_of
-  unlimited_mark places e = ap (λ (limit : Limit). mark_under limit r tree places) e
+  unlimited_mark places e = ap (λ (limit : Option Float). mark_under limit r tree places) e
 
-  module _ (maximum : Float) (limit : r.max_size ≡ Given maximum) where
+  module _ (maximum : Float) (limit : r.max_size ≡ Some maximum) where
     under : (places : List ℕ) → mark_of r tree places
         ≡ cond (lt maximum (item_size r tree places)) (why_above (length places) (cuts_allowed r tree places)) 0
     unfolding mark_of
-    under places = ap (λ (l : Limit). mark_under l r tree places) limit
+    under places = ap (λ (l : Option Float). mark_under l r tree places) limit
 
     pub small_mark : (places : List ℕ) → lt maximum (item_size r tree places) ≡ false → mark_of r tree places ≡ 0
     small_mark places e =

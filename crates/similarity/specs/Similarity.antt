@@ -1,9 +1,7 @@
 -- Similarity (`stable_id_similarity`).
 use Rattle.std.specs.Prelude.{ℕ, ◌+◌, ◌-◌, min, max, cond, ◌||◌, List, [], ◌∷◌, ltb}
-use Rattle.refusal.specs.Outcome.{Outcome, refused, accepted, Test, test, outcome}
+use Rattle.refusal.specs.Outcome.{Outcome, Test, test, outcome}
 use Rattle.ids.specs.Offsets.{id_too_long}
-use Rattle.similarity.specs.declared.Similarity.{Similarity}
-use Rattle.similarity.specs.declared.Similarity.TheVariants.{Refused, Score}
 
 -- "the absolute difference" of two bytes
 abbrev pub gap : ℕ → ℕ → ℕ
@@ -29,8 +27,3 @@ similarity_tests lhs rhs = test 3 (id_too_long lhs || id_too_long rhs) ∷ []
 unfoldable pub similarity_call : List ℕ → List ℕ → Outcome ℕ
 unfolding similarity_tests outcome similarity
 similarity_call lhs rhs = outcome (similarity_tests lhs rhs) (similarity lhs rhs)
-
--- the number and the value of each case of the answer
-abbrev pub outcome_of : Similarity → Outcome ℕ
-outcome_of (Refused n) = refused n
-outcome_of (Score s) = accepted s

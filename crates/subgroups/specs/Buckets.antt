@@ -1,6 +1,6 @@
 -- The chains along which the kind of some bits is looked for. What is found follows from the bits alone: a search ensures the same with any
 -- buckets.
-use Rattle.std.specs.Prelude.{◌≡◌, ℕ, suc, ◌+◌, ◌*◌, ◌%◌, ◌^◌, ◌<◌, ◌≤◌, false, List, length, ◌≢◌, slice_index, slice_set}
+use Rattle.std.specs.Prelude.{◌≡◌, ℕ, suc, ◌+◌, ◌%◌, ◌^◌, ◌<◌, ◌≤◌, false, List, length, ◌≢◌, slice_index, slice_set}
 use Rattle.bitset.specs.Entries.{word_at, row_of}
 use Rattle.bitset.specs.declared.entries.BitSet.{BitSet}
 use Rattle.grouping.specs.Subgroups.{same_bits}

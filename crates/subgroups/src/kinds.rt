@@ -1,5 +1,5 @@
 // The kinds of entry bits of a set, numbered by first appearance.
-ghost use Rattle.std.specs.Prelude.{◌≡◌, ◌+◌, ◌*◌, ◌^◌, ◌<◌, ◌≤◌, length, set, slice_index_or};
+ghost use Rattle.std.specs.Prelude.{◌≡◌, ◌+◌, ◌*◌, ◌^◌, ◌<◌, ◌≤◌, MatchOption, length, set, slice_index_or};
 ghost use Rattle.grouping.specs.Subgroups.{same_bits, kind_number};
 ghost use Rattle.subgroups.specs.Kinds.{rows_of};
 ghost use Rattle.subgroups.specs.Buckets.{mixed_with, bucket_of, Chained, ChainRoom, Pushed};
@@ -17,16 +17,7 @@ pub fn same_bits(a: BitSet, b: BitSet) -> bool
 {
     let x = a.words;
     let y = b.words;
-    if x[0] != y[0] {
-        return false;
-    }
-    if x[1] != y[1] {
-        return false;
-    }
-    if x[2] != y[2] {
-        return false;
-    }
-    x[3] == y[3]
+    (x[0] == y[0]) & (x[1] == y[1]) & (x[2] == y[2]) & (x[3] == y[3])
 }
 
 // Five times the words so far and one more, modulo 2^64.
@@ -46,23 +37,30 @@ fn bucket_of(bits: BitSet) -> usize
     (mix(mix(mix(w[3], w[2]), w[1]), w[0]) % 2039) as usize
 }
 
-// The number of the kind that has these bits, and the count of kinds if none has. Only kinds of the bits' bucket are looked at, the last first. Heads
+// The number of the kind that has these bits, if one of the kinds has. Only kinds of the bits' bucket are looked at, the last first. Heads
 // and links are numbers plus 1.
-fn find_kind(kind_bits: &[u64], heads: &[u32], chain: &[u32], count: usize, bits: BitSet) -> usize
+fn find_kind(
+    kind_bits: &[u64],
+    heads: &[u32],
+    chain: &[u32],
+    count: usize,
+    bits: BitSet,
+) -> Option<usize>
     requires { (4 * count ≤ length kind_bits.now) × Chained kind_bits.now count heads.now chain.now
         × ChainRoom count heads.now chain.now }
-    ensures { result ≡ kind_number 0 (rows_of kind_bits.now count) bits }
+    ensures { let number = kind_number 0 (rows_of kind_bits.now count) bits in
+        MatchOption result (count ≡ number) (λ kind. (kind ≡ number) × (kind < count)) }
 {
     let bucket = bucket_of(bits);
     let mut at = heads[bucket] as usize;
     while 0 < at {
         let kind = at - 1;
         if same_bits(row(kind_bits, kind), bits) {
-            return kind;
+            return Some(kind);
         }
         at = chain[kind] as usize;
     }
-    count
+    None
 }
 
 // Puts the next kind first in its bucket.
@@ -95,8 +93,7 @@ fn enter_kind(
     ensures { Entered count bits kind_sizes.old kind_bits.old result.kind result.count
         kind_sizes.new kind_bits.new × Chained kind_bits.new result.count heads.new chain.new }
 {
-    let kind = find_kind(kind_bits, heads, chain, count, bits);
-    if kind < count {
+    if let Some(kind) = find_kind(kind_bits, heads, chain, count, bits) {
         return Numbered { kind, count };
     }
     store(
@@ -110,7 +107,7 @@ fn enter_kind(
     );
     push_kind(heads, chain, bucket_of(bits), count);
     Numbered {
-        kind,
+        kind: count,
         count: count + 1,
     }
 }
@@ -120,7 +117,7 @@ fn add_to_kind(kind_sizes: &mut [u64], kind: usize, size: u64)
     requires { (kind < length kind_sizes.old) × (slice_index_or kind_sizes.old kind 0 + size ≤ 2 ^ 53) }
     ensures { kind_sizes.new ≡ set kind_sizes.old kind (slice_index_or kind_sizes.old kind 0 + size) }
 {
-    kind_sizes[kind] = kind_sizes[kind] + size;
+    kind_sizes[kind] += size;
 }
 
 // Finds the kinds of the modules of a set, numbered by first appearance, and the size of each. Answers how many there are.
@@ -140,9 +137,8 @@ pub fn find_kinds(
 {
     let mut heads = [0u32; 2039];
     let mut count = 0;
-    let mut i = 0;
-    while i < set.len() {
-        let m = set[i] as usize;
+    for (i, module) in set.iter().enumerate() {
+        let m = *module as usize;
         let found = enter_kind(
             kind_sizes,
             kind_bits,
@@ -154,7 +150,6 @@ pub fn find_kinds(
         count = found.count;
         kind_of[i] = found.kind as u32;
         add_to_kind(kind_sizes, found.kind, sizes[m]);
-        i = i + 1;
     }
     count
 }

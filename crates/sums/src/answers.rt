@@ -13,10 +13,8 @@ pub fn bad_answer(answers: &[u32], k: usize) -> bool
 {
     let limit = k as u32 + 2;
     let mut bad = false;
-    let mut i = 0;
-    while i < answers.len() {
-        bad = (limit <= answers[i]) | bad;
-        i = i + 1;
+    for answer in answers {
+        bad |= limit <= *answer;
     }
     bad
 }

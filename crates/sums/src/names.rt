@@ -12,10 +12,7 @@ fn meet(answer: u32, seen: &mut [u8], mark: u8) -> usize
     let at = answer as usize;
     let before = seen[at];
     seen[at] = mark;
-    if before == mark {
-        return 0;
-    }
-    1
+    if before == mark { 0 } else { 1 }
 }
 
 // 1 if an answer is marked, else 0.
@@ -23,10 +20,7 @@ fn met(answer: usize, seen: &[u8], mark: u8) -> usize
     requires { answer < length seen.now }
     ensures { result ≡ cond (has seen.now mark answer) 1 0 }
 {
-    if seen[answer] == mark {
-        return 1;
-    }
-    0
+    if seen[answer] == mark { 1 } else { 0 }
 }
 
 // The distinct answers of one group.
@@ -35,10 +29,8 @@ fn count_answers(row: &[u32], seen: &mut [u8], mark: u8) -> usize
     ensures { AnswersCounted row.now seen.old seen.new mark result }
 {
     let mut count = 0;
-    let mut m = 0;
-    while m < row.len() {
-        count = count + meet(row[m], seen, mark);
-        m = m + 1;
+    for answer in row {
+        count += meet(*answer, seen, mark);
     }
     count
 }
@@ -60,12 +52,10 @@ fn count_rows(answers: &[u32], seen: &mut [u8], n: usize, g: usize) -> usize
     ensures { RowsCounted answers.now (length seen.old - 2) n g result }
 {
     let mut count = 0;
-    let mut i = 0;
-    while i < g {
+    for i in 0..g {
         let start = i * n;
         let end = start + n;
-        count = count + count_names(&answers[start..end], seen, (i + 1) as u8);
-        i = i + 1;
+        count += count_names(&answers[start..end], seen, (i + 1) as u8);
     }
     count
 }

@@ -9,10 +9,7 @@ ghost use Rattle.sums.specs.HandsIn.{HandsSizes};
 fn listed_size(flags: u8, size: u64) -> u64
     ensures { result ≡ cond (listed flags) size 0 }
 {
-    if flags::is_listed(flags) {
-        return size;
-    }
-    0
+    if flags::is_listed(flags) { size } else { 0 }
 }
 
 // What is left below the limit is compared, so nothing wraps.
@@ -21,14 +18,12 @@ pub fn bad_total(flags: &[u8], sizes: &[u64]) -> bool
     ensures { (b : Given) → HandsSizes b flags.now sizes.now → result ≡ bad_total b }
 {
     let mut total: u64 = 0;
-    let mut m = 0;
-    while m < sizes.len() {
-        let size = listed_size(flags[m], sizes[m]);
+    for (byte, size) in flags.iter().zip(sizes) {
+        let size = listed_size(*byte, *size);
         if whole::TOTAL_LIMIT - total < size {
             return true;
         }
-        total = total + size;
-        m = m + 1;
+        total += size;
     }
     false
 }

@@ -1,17 +1,7 @@
 // Looks at the entries of lent areas. What is wrong is a line that begins with `!`.
-ghost use Rattle.std.specs.Prelude.{◌≤◌};
-
 use listform::areas;
+use listform::areas::Entry;
 use textform::out;
-
-pub fn least(a: usize, b: usize) -> usize
-    ensures { result ≤ b }
-{
-    if a < b {
-        return a;
-    }
-    b
-}
 
 fn warn(tag: &[u8], what: &[u8]) {
     out::begin(b"!", tag);
@@ -20,21 +10,9 @@ fn warn(tag: &[u8], what: &[u8]) {
     out::line_end();
 }
 
-// Whether all entries from a place on are as they were.
-pub fn numbers(tag: &[u8], what: &[u8], area: &[u32], from: usize) {
-    if !areas::numbers_kept(area, from) {
-        warn(tag, what);
-    }
-}
-
-pub fn words(tag: &[u8], what: &[u8], area: &[u64], from: usize) {
-    if !areas::words_kept(area, from) {
-        warn(tag, what);
-    }
-}
-
-pub fn bytes(tag: &[u8], what: &[u8], area: &[u8], from: usize) {
-    if !areas::bytes_kept(area, from) {
+// Entries from a place on, which no call may have written.
+pub fn untouched<T: Entry>(tag: &[u8], what: &[u8], area: &[T], from: usize) {
+    if !areas::kept(area, from) {
         warn(tag, what);
     }
 }
@@ -44,5 +22,5 @@ pub fn scratch(tag: &[u8], zeros: usize, area: &[u32; 4100]) {
     if !areas::zeros(area, zeros) {
         warn(tag, b"scratch is not zero");
     }
-    numbers(tag, b"scratch was written", area, zeros);
+    untouched(tag, b"scratch was written", area, zeros);
 }

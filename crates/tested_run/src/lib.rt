@@ -2,8 +2,14 @@
 #![tactic(auto)]
 
 ghost use Rattle.tested_run.specs.RunInput.{Runnable, TestedRan};
+ghost use Rattle.options.specs.Tables.{tables_of};
+ghost use Rattle.emitting.specs.Emitted.{SameAreas};
 
+use emitting::ChunkAreas;
+use ids::parts::Ids;
 use options::Options;
+use options::tables::Groups;
+use records::Records;
 use run::run;
 use turns::settings::all_settings;
 
@@ -16,34 +22,18 @@ pub fn run_tested(
     shares: &[u32],
     tags: &[u64],
     bits: &[u64],
-    bytes: &[u8],
-    offsets: &[u32],
-    first: &[u32],
-    dependency: &[u32],
-    next: &[u32],
+    ids: &Ids,
+    records: &Records,
     options: Options,
-    given: &[u8],
-    min_size: &[f64],
-    max_size: &[f64],
-    min_module_size: &[f64],
-    max_module_size: &[f64],
-    min_share_count: &[u32],
-    group_tags: &[u64],
-    priority: &[u32],
-    threshold: &[f64],
+    groups: &Groups,
     answers: &[u32],
     by_order: &[u32],
     rank: &[u32],
     on_entry: usize,
     at: usize,
-    chunk_of: &mut [u32],
+    areas: &mut ChunkAreas,
     next_of: &mut [u32],
     first_of: &mut [u32],
-    group_of: &mut [u32],
-    name_of: &mut [u32],
-    size_of: &mut [f64],
-    bits_of: &mut [u64],
-    mark_of: &mut [u8],
     scratch: &mut [u32],
 ) -> usize
     requires { Runnable (record {
@@ -54,40 +44,30 @@ pub fn run_tested(
       shares = shares.now;
       tags = tags.now;
       bits = bits.now;
-      bytes = bytes.now;
-      offsets = offsets.now;
-      first = first.now;
-      dependency = dependency.now;
-      next = next.now;
+      bytes = ids.now.bytes.now;
+      offsets = ids.now.offsets.now;
+      first = records.now.first.now;
+      dependency = records.now.dependency.now;
+      next = records.now.next.now;
       options = options;
-      groups = record {
-        given = given.now;
-        min_size = min_size.now;
-        max_size = max_size.now;
-        min_module_size = min_module_size.now;
-        max_module_size = max_module_size.now;
-        min_share_count = min_share_count.now;
-        tags = group_tags.now;
-        priority = priority.now;
-        threshold = threshold.now;
-      };
+      groups = tables_of groups.now;
       answers = answers.now;
       by_order = by_order.now;
       rank = rank.now;
       on_entry = on_entry;
     }) at (record {
-      modules = record { chunk_of = chunk_of.old; next_of = next_of.old };
+      modules = record { chunk_of = areas.old.chunk_of.now; next_of = next_of.old };
       records = record {
         first_of = first_of.old;
-        group_of = group_of.old;
-        name_of = name_of.old;
-        size_of = size_of.old;
-        bits_of = bits_of.old;
-        mark_of = mark_of.old;
+        group_of = areas.old.group_of.now;
+        name_of = areas.old.name_of.now;
+        size_of = areas.old.size_of.now;
+        bits_of = areas.old.bits_of.now;
+        mark_of = areas.old.mark_of.now;
       };
       scratch = scratch.old;
     }) }
-    ensures { TestedRan (record {
+    ensures written { TestedRan (record {
       n = n;
       g = g;
       flags = flags.now;
@@ -95,64 +75,43 @@ pub fn run_tested(
       shares = shares.now;
       tags = tags.now;
       bits = bits.now;
-      bytes = bytes.now;
-      offsets = offsets.now;
-      first = first.now;
-      dependency = dependency.now;
-      next = next.now;
+      bytes = ids.now.bytes.now;
+      offsets = ids.now.offsets.now;
+      first = records.now.first.now;
+      dependency = records.now.dependency.now;
+      next = records.now.next.now;
       options = options;
-      groups = record {
-        given = given.now;
-        min_size = min_size.now;
-        max_size = max_size.now;
-        min_module_size = min_module_size.now;
-        max_module_size = max_module_size.now;
-        min_share_count = min_share_count.now;
-        tags = group_tags.now;
-        priority = priority.now;
-        threshold = threshold.now;
-      };
+      groups = tables_of groups.now;
       answers = answers.now;
       by_order = by_order.now;
       rank = rank.now;
       on_entry = on_entry;
     }) at result (record {
-      modules = record { chunk_of = chunk_of.old; next_of = next_of.old };
+      modules = record { chunk_of = areas.old.chunk_of.now; next_of = next_of.old };
       records = record {
         first_of = first_of.old;
-        group_of = group_of.old;
-        name_of = name_of.old;
-        size_of = size_of.old;
-        bits_of = bits_of.old;
-        mark_of = mark_of.old;
+        group_of = areas.old.group_of.now;
+        name_of = areas.old.name_of.now;
+        size_of = areas.old.size_of.now;
+        bits_of = areas.old.bits_of.now;
+        mark_of = areas.old.mark_of.now;
       };
       scratch = scratch.old;
     }) (record {
-      modules = record { chunk_of = chunk_of.new; next_of = next_of.new };
+      modules = record { chunk_of = areas.new.chunk_of.now; next_of = next_of.new };
       records = record {
         first_of = first_of.new;
-        group_of = group_of.new;
-        name_of = name_of.new;
-        size_of = size_of.new;
-        bits_of = bits_of.new;
-        mark_of = mark_of.new;
+        group_of = areas.new.group_of.now;
+        name_of = areas.new.name_of.now;
+        size_of = areas.new.size_of.now;
+        bits_of = areas.new.bits_of.now;
+        mark_of = areas.new.mark_of.now;
       };
       scratch = scratch.new;
     }) }
+    ensures same { SameAreas areas.old areas.new }
 {
-    let settings = all_settings(
-        options,
-        given,
-        min_size,
-        max_size,
-        min_module_size,
-        max_module_size,
-        min_share_count,
-        group_tags,
-        priority,
-        threshold,
-        g,
-    );
+    let settings = all_settings(options, groups, g);
     run(
         settings,
         g,
@@ -163,23 +122,15 @@ pub fn run_tested(
         shares,
         tags,
         bits,
-        bytes,
-        offsets,
-        first,
-        dependency,
-        next,
+        ids,
+        records,
         by_order,
         rank,
         on_entry as u32,
         at,
-        chunk_of,
+        areas,
         next_of,
         first_of,
-        group_of,
-        name_of,
-        size_of,
-        bits_of,
-        mark_of,
         scratch,
     )
 }

@@ -1,19 +1,21 @@
 -- The ladder of 6 to 10 from its parts: 6 and 7, 8, and 9 and 10.
-use Prim.Native.Nat.{ℕ, ◌<◌}
+use Prim.Native.Nat.{ℕ}
 use mathlib.Core.Bool.{true, false}
 use mathlib.Core.List.{[], ◌∷◌}
 use mathlib.Core.Path.{◌≡◌, refl, sym, ◌∙◌}
 use Rattle.refusal.specs.Outcome.{test, first_number}
+use Rattle.refusal.specs.Answers.{refusal_number}
+use Rattle.refusal.specs.declared.Refusal.{Refusal}
 use Rattle.grouping.specs.Given.{Given}
 use Rattle.grouping.specs.Conditions.{bad_limit}
 use Rattle.conditions.specs.Ladder.{tree_tests, value_tests}
-use Rattle.refusal.proofs.Ladder.{none_applies, applies, passes, number, no_number, stops, past_number}
+use Rattle.refusal.proofs.Ladder.{none_applies, applies, passes, number, no_number, part_stops, past_number}
 use Rattle.testing.specs.Content.{content_tests}
 
 module _ (b : Given) where
-  pub tree_stops : (k : ℕ) → 0 < k → k ≡ first_number (tree_tests b) → k ≡ first_number (content_tests b)
+  pub tree_stops : (e : Refusal) → refusal_number e ≡ first_number (tree_tests b) → refusal_number e ≡ first_number (content_tests b)
   unfolding content_tests
-  tree_stops k h e = stops k (tree_tests b) (test 8 (bad_limit b) ∷ value_tests b) h e
+  tree_stops e told = part_stops e (tree_tests b) (test 8 (bad_limit b) ∷ value_tests b) told
 
   after_tree : (k : ℕ) → 0 ≡ first_number (tree_tests b) → k ≡ first_number (test 8 (bad_limit b) ∷ value_tests b) → k ≡ first_number (content_tests b)
   unfolding content_tests tree_tests

@@ -1,5 +1,5 @@
 -- The whole ladder of the input from its first part and the rest, and what an accepted build has passed.
-use Prim.Native.Nat.{ℕ, ◌<◌}
+use Prim.Native.Nat.{ℕ}
 use mathlib.Core.List.{List, ◌++◌}
 use mathlib.Core.Path.{◌≡◌, refl, sym, ap, ◌∙◌}
 use native.Mathlib.Omega.{arith}
@@ -11,11 +11,13 @@ use Rattle.settling.specs.Modules as settling
 use Rattle.conditions.specs.Ladder.{shape_tests}
 use Rattle.conditions.proofs.InputParts.{input_parts}
 use Rattle.places.specs.Ordered.{listed_of}
-use Rattle.testing.specs.declared.Tested.{Tested}
-use Rattle.testing.specs.declared.Tested.TheVariants.{Refused}
+use Rattle.std.specs.Prelude.{Result}
+use Rattle.std.specs.Prelude.Result.{Err}
+use Rattle.refusal.specs.Answers.{refusal_number}
+use Rattle.refusal.specs.declared.Refusal.{Refusal}
 use Rattle.testing.specs.Content.{content_tests}
 use Rattle.testing.specs.Tested.{order_tests, OrderTested, InputTested}
-use Rattle.refusal.proofs.Ladder.{refuses, past, next}
+use Rattle.refusal.proofs.Ladder.{number_above, part_refuses, past, next}
 
 module _ (b : Given) where
   shape_first : input_tests b ≡ shape_tests b ++ order_tests b
@@ -58,20 +60,20 @@ module _ (b : Given) where
 
 -- the first part refuses, and nothing is written
 module _ {b : Given} {by_order rank : List ℕ} where
-  pub shape_refuses : (k : ℕ) → 0 < k → k ≡ first_number (shape_tests b) → InputTested b (Refused k) by_order by_order rank rank
-  shape_refuses k h e =
+  pub shape_refuses : (e : Refusal) → refusal_number e ≡ first_number (shape_tests b) → InputTested b (Err e) by_order by_order rank rank
+  shape_refuses e told =
       record {
         answer =
-            refuses (length (listed_of b)) k (shape_tests b) (order_tests b) h e
+            part_refuses (length (listed_of b)) e (shape_tests b) (order_tests b) told
             ∙ ap (λ (ts : List Test). outcome ts (length (listed_of b))) (sym (shape_first b));
-        ordered = λ p. let z = shape_clear b p in absurd (omega arith);
+        ordered = λ p. let z = shape_clear b p in absurd (omega (arith, number_above e));
         order_length = refl;
         rank_length = refl;
       }
 
 module _ {b : Given} {by_order by-order' rank rank' : List ℕ} where
   -- the first part is passed, and the rest decides
-  pub order_decides : {r : Tested} → 0 ≡ first_number (shape_tests b) → OrderTested b r by_order by-order' rank rank'
+  pub order_decides : {r : Result ℕ Refusal} → 0 ≡ first_number (shape_tests b) → OrderTested b r by_order by-order' rank rank'
       → InputTested b r by_order by-order' rank rank'
   unfolding shape_tests
   order_decides e o =

@@ -1,5 +1,5 @@
 -- Both ladders joined: the outcome of a call of Chunks from the answer to the conditions of the input and the number of those of the state.
-use Prim.Native.Nat.{ℕ, ◌<◌}
+use Prim.Native.Nat.{ℕ}
 use mathlib.Core.List.{List, []}
 use mathlib.Core.Path.{◌≡◌, refl, sym, ◌∙◌}
 use lib.ListN.{length}
@@ -9,9 +9,11 @@ use Rattle.grouping.specs.Given.{Given, Areas}
 use Rattle.grouping.specs.Conditions.{input_tests, scratch_need, state_tests}
 use Rattle.grouping.specs.Call.{chunks_tests}
 use Rattle.places.specs.Ordered.{listed_of}
-use Rattle.testing.specs.declared.Tested.TheVariants.{Refused, Passed}
+use Rattle.std.specs.Prelude.Result.{Ok, Err}
+use Rattle.refusal.specs.Answers.{refusal_number}
+use Rattle.refusal.specs.declared.Refusal.{Refusal}
 use Rattle.testing.specs.Tested.{InputTested, InputPassed}
-use Rattle.refusal.proofs.Ladder.{refuses, past, still_refused, goes_on}
+use Rattle.refusal.proofs.Ladder.{part_refuses, past, still_refused, goes_on}
 use Rattle.testing.proofs.InputLadder.{passed_all}
 
 -- the conditions of the state for a build and areas
@@ -19,7 +21,7 @@ abbrev state_of : Given → Areas → List Test
 state_of b a = state_tests b.on_entry b.shared.n (scratch_need b) a
 
 module _ {b : Given} {by_order by-order' rank rank' : List ℕ} where
-  pub input_passed : {count : ℕ} → InputTested b (Passed count) by_order by-order' rank rank' → InputPassed b count by-order' rank rank'
+  pub input_passed : {count : ℕ} → InputTested b (Ok count) by_order by-order' rank rank' → InputPassed b count by-order' rank rank'
   unfolding input_tests outcome
   input_passed {count} t =
       let passed = passed_all b (length (listed_of b)) count (sym t.answer) in
@@ -35,22 +37,21 @@ module _ {b : Given} {by_order by-order' rank rank' : List ℕ} where
 
   module _ (a : Areas) (answer : ℕ) where
     -- a condition of the input applies
-    pub refused_input : {number : ℕ} → InputTested b (Refused number) by_order by-order' rank rank'
-        → outcome (chunks_tests scratch_need b a) answer ≡ refused number
+    pub refused_input : {e : Refusal} → InputTested b (Err e) by_order by-order' rank rank'
+        → outcome (chunks_tests scratch_need b a) answer ≡ refused (refusal_number e)
     unfolding chunks_tests
-    refused_input {number} t = still_refused (length (listed_of b)) answer number (input_tests b) _ (sym t.answer)
+    refused_input {e} t = still_refused (length (listed_of b)) answer (refusal_number e) (input_tests b) _ (sym t.answer)
 
     -- none does, and the state decides
-    module _ {count : ℕ} (t : InputTested b (Passed count) by_order by-order' rank rank') where
+    module _ {count : ℕ} (t : InputTested b (Ok count) by_order by-order' rank rank') where
       state_decides : outcome (chunks_tests scratch_need b a) answer ≡ outcome (state_of b a) answer
       unfolding chunks_tests
       state_decides = goes_on (length (listed_of b)) answer count (input_tests b) _ (sym t.answer)
 
-      pub refused_state : {number : ℕ} → 0 < number → number ≡ first_number (state_of b a)
-          → outcome (chunks_tests scratch_need b a) answer ≡ refused number
+      pub refused_state : (e : Refusal) → refusal_number e ≡ first_number (state_of b a)
+          → outcome (chunks_tests scratch_need b a) answer ≡ refused (refusal_number e)
       unfolding state_tests
-      refused_state {number} h e =
-          state_decides ∙ sym (refuses answer number (state_of b a) [] h e)
+      refused_state e told = state_decides ∙ sym (part_refuses answer e (state_of b a) [] told)
 
       pub accepted_both : 0 ≡ first_number (state_of b a)
           → outcome (chunks_tests scratch_need b a) answer ≡ accepted answer

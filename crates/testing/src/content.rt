@@ -1,14 +1,19 @@
 // 6 to 10: what the tables hold, beside ids and execution orders.
 ghost use Rattle.std.specs.Prelude.{◌≡◌};
+ghost use Rattle.refusal.specs.Answers.{number_or_zero};
 ghost use Rattle.refusal.specs.Outcome.{first_number};
 ghost use Rattle.grouping.specs.Given.{Given};
 ghost use Rattle.testing.specs.Content.{content_tests, ContentReady, HandsContent};
+ghost use Rattle.options.specs.Tables.{tables_of};
 
 use conditions::ladder::{tree_number, value_number};
 use conditions::limits::bad_limit;
 use options::Options;
+use options::tables::Groups;
+use records::Records;
+use refusal::Refusal;
 
-// The number of the first that applies, and 0 if none does.
+// Refuses by the first that applies.
 pub fn content_number(
     n: usize,
     g: usize,
@@ -18,63 +23,18 @@ pub fn content_number(
     flags: &[u8],
     sizes: &[u64],
     bits: &[u64],
-    first: &[u32],
-    dependency: &[u32],
-    next: &[u32],
+    records: &Records,
     options: Options,
-    given: &[u8],
-    min_size: &[f64],
-    max_size: &[f64],
-    min_module_size: &[f64],
-    max_module_size: &[f64],
-    min_share_count: &[u32],
-    group_tags: &[u64],
-    priority: &[u32],
-    threshold: &[f64],
+    groups: &Groups,
     answers: &[u32],
-) -> u32
-    requires { ContentReady n g k d flags.now sizes.now bits.now first.now dependency.now next.now (record {
-      given = given.now;
-      min_size = min_size.now;
-      max_size = max_size.now;
-      min_module_size = min_module_size.now;
-      max_module_size = max_module_size.now;
-      min_share_count = min_share_count.now;
-      tags = group_tags.now;
-      priority = priority.now;
-      threshold = threshold.now;
-    }) }
+) -> Result<(), Refusal>
+    requires { ContentReady n g k d flags.now sizes.now bits.now records.now.first.now records.now.dependency.now records.now.next.now (tables_of groups.now) }
     ensures { (b : Given) → HandsContent b n g e k d flags.now sizes.now bits.now
-        first.now dependency.now next.now answers.now options (record {
-          given = given.now;
-          min_size = min_size.now;
-          max_size = max_size.now;
-          min_module_size = min_module_size.now;
-          max_module_size = max_module_size.now;
-          min_share_count = min_share_count.now;
-          tags = group_tags.now;
-          priority = priority.now;
-          threshold = threshold.now;
-        }) → result ≡ first_number (content_tests b) }
+        records.now.first.now records.now.dependency.now records.now.next.now answers.now options (tables_of groups.now) → number_or_zero result ≡ first_number (content_tests b) }
 {
-    let tree = tree_number(flags, sizes, first, dependency, next, n, d);
-    if tree != 0 {
-        return tree;
-    }
-    if bad_limit(
-        options,
-        given,
-        min_size,
-        max_size,
-        min_module_size,
-        max_module_size,
-        min_share_count,
-        group_tags,
-        priority,
-        threshold,
-        g,
-    ) {
-        return refusal::NAN;
+    tree_number(flags, sizes, records, n, d)?;
+    if bad_limit(options, groups, g) {
+        return Err(Refusal::Nan);
     }
     value_number(flags, bits, answers, n, e, k)
 }

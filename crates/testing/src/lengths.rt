@@ -2,6 +2,8 @@
 ghost use Rattle.std.specs.Prelude.{◌≡◌, length};
 
 use conditions::{GroupLengths, ModuleLengths, RecordLengths};
+use options::tables::Groups;
+use records::Records;
 
 // Of the tables by module.
 pub fn module_lengths(
@@ -32,60 +34,45 @@ pub fn module_lengths(
 }
 
 // Of the id offsets and of the tables of dependency records.
-pub fn record_lengths(
-    offsets: &[u32],
-    first: &[u32],
-    dependency: &[u32],
-    next: &[u32],
-) -> RecordLengths
+pub fn record_lengths(offsets: &[u32], records: &Records) -> RecordLengths
     ensures { result ≡ record {
       offsets = length offsets.now;
-      first = length first.now;
-      dependency = length dependency.now;
-      next = length next.now;
+      first = length records.now.first.now;
+      dependency = length records.now.dependency.now;
+      next = length records.now.next.now;
     } }
 {
     RecordLengths {
         offsets: offsets.len(),
-        first: first.len(),
-        dependency: dependency.len(),
-        next: next.len(),
+        first: records.first.len(),
+        dependency: records.dependency.len(),
+        next: records.next.len(),
     }
 }
 
 // Of the tables by group.
-pub fn group_lengths(
-    given: &[u8],
-    min_size: &[f64],
-    max_size: &[f64],
-    min_module_size: &[f64],
-    max_module_size: &[f64],
-    min_share_count: &[u32],
-    group_tags: &[u64],
-    priority: &[u32],
-    threshold: &[f64],
-) -> GroupLengths
+pub fn group_lengths(groups: &Groups) -> GroupLengths
     ensures { result ≡ record {
-      given = length given.now;
-      min_size = length min_size.now;
-      max_size = length max_size.now;
-      min_module_size = length min_module_size.now;
-      max_module_size = length max_module_size.now;
-      min_share_count = length min_share_count.now;
-      tags = length group_tags.now;
-      priority = length priority.now;
-      threshold = length threshold.now;
+      given = length groups.now.given.now;
+      min_size = length groups.now.min_size.now;
+      max_size = length groups.now.max_size.now;
+      min_module_size = length groups.now.min_module_size.now;
+      max_module_size = length groups.now.max_module_size.now;
+      min_share_count = length groups.now.min_share_count.now;
+      tags = length groups.now.tags.now;
+      priority = length groups.now.priority.now;
+      threshold = length groups.now.threshold.now;
     } }
 {
     GroupLengths {
-        given: given.len(),
-        min_size: min_size.len(),
-        max_size: max_size.len(),
-        min_module_size: min_module_size.len(),
-        max_module_size: max_module_size.len(),
-        min_share_count: min_share_count.len(),
-        tags: group_tags.len(),
-        priority: priority.len(),
-        threshold: threshold.len(),
+        given: groups.given.len(),
+        min_size: groups.min_size.len(),
+        max_size: groups.max_size.len(),
+        min_module_size: groups.min_module_size.len(),
+        max_module_size: groups.max_module_size.len(),
+        min_share_count: groups.min_share_count.len(),
+        tags: groups.tags.len(),
+        priority: groups.priority.len(),
+        threshold: groups.threshold.len(),
     }
 }

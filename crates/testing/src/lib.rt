@@ -6,10 +6,3 @@ pub mod input;
 pub mod lengths;
 pub mod ordering;
 pub mod state;
-
-// The number of the first condition of the input that applies, or how many modules are normal and included.
-#[derive(Clone, Copy)]
-pub enum Tested {
-    Refused(u32),
-    Passed(usize),
-}

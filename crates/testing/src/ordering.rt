@@ -3,13 +3,17 @@ ghost use Rattle.grouping.specs.Given.{Given};
 ghost use Rattle.places.specs.Ordered.{Handed, Hands};
 ghost use Rattle.testing.specs.Content.{ContentReady, HandsContent};
 ghost use Rattle.testing.specs.Tested.{OrderTested};
+ghost use Rattle.options.specs.Tables.{tables_of};
 
-use crate::Tested;
 use crate::content::content_number;
+use ids::parts::Ids;
 use options::Options;
-use places::ordered::{Ordered, put_in_order};
+use options::tables::Groups;
+use places::ordered::put_in_order;
+use records::Records;
+use refusal::Refusal;
 
-// Refuses, or leaves the modules in execution order and their ranks by id.
+// Refuses, or leaves the modules in execution order and their ranks by id, and answers how many there are.
 pub fn test_order(
     n: usize,
     g: usize,
@@ -20,85 +24,24 @@ pub fn test_order(
     sizes: &[u64],
     orders: &[u32],
     bits: &[u64],
-    bytes: &[u8],
-    offsets: &[u32],
-    first: &[u32],
-    dependency: &[u32],
-    next: &[u32],
+    ids: &Ids,
+    records: &Records,
     options: Options,
-    given: &[u8],
-    min_size: &[f64],
-    max_size: &[f64],
-    min_module_size: &[f64],
-    max_module_size: &[f64],
-    min_share_count: &[u32],
-    group_tags: &[u64],
-    priority: &[u32],
-    threshold: &[f64],
+    groups: &Groups,
     answers: &[u32],
     by_order: &mut [u32],
     rank: &mut [u32],
-) -> Tested
-    requires { Handed flags.now orders.now bytes.now offsets.now by_order.old rank.old
-        × ContentReady n g k d flags.now sizes.now bits.now first.now dependency.now next.now (record {
-          given = given.now;
-          min_size = min_size.now;
-          max_size = max_size.now;
-          min_module_size = min_module_size.now;
-          max_module_size = max_module_size.now;
-          min_share_count = min_share_count.now;
-          tags = group_tags.now;
-          priority = priority.now;
-          threshold = threshold.now;
-        }) }
-    ensures { (b : Given) → Hands b flags.now orders.now bytes.now offsets.now
+) -> Result<usize, Refusal>
+    requires { Handed flags.now orders.now ids.now.bytes.now ids.now.offsets.now by_order.old rank.old
+        × ContentReady n g k d flags.now sizes.now bits.now records.now.first.now records.now.dependency.now records.now.next.now (tables_of groups.now) }
+    ensures { (b : Given) → Hands b flags.now orders.now ids.now.bytes.now ids.now.offsets.now
         → HandsContent b n g e k d flags.now sizes.now bits.now
-        first.now dependency.now next.now answers.now options (record {
-          given = given.now;
-          min_size = min_size.now;
-          max_size = max_size.now;
-          min_module_size = min_module_size.now;
-          max_module_size = max_module_size.now;
-          min_share_count = min_share_count.now;
-          tags = group_tags.now;
-          priority = priority.now;
-          threshold = threshold.now;
-        })
+        records.now.first.now records.now.dependency.now records.now.next.now answers.now options (tables_of groups.now)
         → OrderTested b result by_order.old by_order.new rank.old rank.new }
 {
-    let ordered = put_in_order(flags, orders, bytes, offsets, by_order, rank);
-    match ordered {
-        Ordered::SameId => Tested::Refused(refusal::SAME_ID),
-        Ordered::SameOrder => Tested::Refused(refusal::SAME_ORDER),
-        Ordered::Listed(count) => {
-            let number = content_number(
-                n,
-                g,
-                e,
-                k,
-                d,
-                flags,
-                sizes,
-                bits,
-                first,
-                dependency,
-                next,
-                options,
-                given,
-                min_size,
-                max_size,
-                min_module_size,
-                max_module_size,
-                min_share_count,
-                group_tags,
-                priority,
-                threshold,
-                answers,
-            );
-            if number != 0 {
-                return Tested::Refused(number);
-            }
-            Tested::Passed(count)
-        }
-    }
+    let count = put_in_order(flags, orders, ids, by_order, rank)?;
+    content_number(
+        n, g, e, k, d, flags, sizes, bits, records, options, groups, answers,
+    )?;
+    Ok(count)
 }

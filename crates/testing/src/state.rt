@@ -2,15 +2,17 @@
 ghost use Rattle.std.specs.Prelude.{◌≡◌};
 ghost use Rattle.grouping.specs.Given.{Given, Areas};
 ghost use Rattle.grouping.specs.Conditions.{scratch_need, state_tests};
+ghost use Rattle.refusal.specs.Answers.{number_or_zero};
 ghost use Rattle.refusal.specs.Outcome.{first_number};
 ghost use Rattle.sums.specs.Names.{AnswersWithin};
 ghost use Rattle.testing.specs.Tested.{HandsState};
 
 use conditions::AreaLengths;
 use conditions::ladder::state_number;
+use refusal::Refusal;
 use sums::names::count_pairs;
 
-// The number of the first that applies, and 0 if none does. The scratch is given by its length.
+// Refuses by the first that applies. The scratch is given by its length.
 pub fn test_state(
     answers: &[u32],
     n: usize,
@@ -19,10 +21,10 @@ pub fn test_state(
     on_entry: usize,
     lengths: AreaLengths,
     scratch: usize,
-) -> u32
+) -> Result<(), Refusal>
     requires { AnswersWithin answers.now n g k }
     ensures { (b : Given) (a : Areas) → HandsState b a answers.now n g k on_entry lengths scratch
-        → result ≡ first_number (state_tests b.on_entry b.shared.n (scratch_need b) a) }
+        → number_or_zero result ≡ first_number (state_tests b.on_entry b.shared.n (scratch_need b) a) }
 {
     let count = count_pairs(answers, n, g, k);
     state_number(on_entry, n, lengths, count, scratch)

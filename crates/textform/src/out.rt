@@ -17,17 +17,8 @@ pub fn line_end() {
     text(b"\n");
 }
 
-pub fn number(n: u64) {
-    io::print_decimal(1, n);
-}
-
-// Numbers of narrower types.
-pub fn byte(n: u8) {
-    number(n as u64);
-}
-
-pub fn short(n: u32) {
-    number(n as u64);
+pub fn number<N: Into<u64>>(n: N) {
+    io::print_decimal(1, n.into());
 }
 
 // A word of entry bits, after a colon.
@@ -45,13 +36,11 @@ pub fn double(x: f64) {
 // A size as the whole number that every size is.
 pub fn size(x: f64) {
     blank();
-    if x > -1.0 {
-        if x < 18446744073709551616.0 {
-            number(std::num::truncating_f64_to_u64(x));
-            return;
-        }
+    if -1.0 < x && x < 18446744073709551616.0 {
+        number(std::num::truncating_f64_to_u64(x));
+    } else {
+        text(b"?");
     }
-    text(b"?");
 }
 
 // The call and its tag, with which each answer begins.
@@ -63,7 +52,7 @@ pub fn begin(call: &[u8], tag: &[u8]) {
 
 pub fn refused(n: u32) {
     text(b" refused ");
-    short(n);
+    number(n);
     line_end();
 }
 

@@ -7,15 +7,10 @@ pub fn start_back(bytes: &[u8], at: usize) -> usize
     requires { at < length bytes.now }
     ensures { result ≡ start_back bytes.now at }
 {
-    let mut i = at;
-    while 0 < i {
-        if bytes[i] < 128 {
+    for i in (1..at + 1).rev() {
+        if bytes[i] < 128 || 191 < bytes[i] {
             return i;
         }
-        if 191 < bytes[i] {
-            return i;
-        }
-        i = i - 1;
     }
     0
 }

@@ -3,7 +3,7 @@ ghost use Rattle.std.specs.Prelude.{◌≡◌, cond, List, ◌∷◌, ℕ};
 ghost use Rattle.utf8.specs.Table.{among, values};
 ghost use Rattle.utf8.specs.States.{goes_from};
 
-// No byte leads out of this state.
+// No byte leads out of this state. It's a number among the others, and no `None`: the clause of the public `next_state` names states by number.
 pub const NO_TEXT: u8 = 8;
 
 // The state after the first byte of a character: the rows of RFC 3629's table.
@@ -28,13 +28,11 @@ fn first_state(byte: u8) -> u8
 fn within(byte: u8, lowest: u8, highest: u8, next: u8) -> u8
     ensures { result ≡ cond (among (values lowest highest) byte) next 8 }
 {
-    if byte < lowest {
-        return NO_TEXT;
+    if lowest <= byte && byte <= highest {
+        next
+    } else {
+        NO_TEXT
     }
-    if highest < byte {
-        return NO_TEXT;
-    }
-    next
 }
 
 // The state after one more byte.

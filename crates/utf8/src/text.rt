@@ -9,13 +9,11 @@ pub fn is_utf8(bytes: &[u8]) -> bool
     ensures { result ≡ utf8 bytes.now }
 {
     let mut state = 0;
-    let mut i = 0;
-    while i < bytes.len() {
-        state = next_state(state, bytes[i]);
+    for byte in bytes {
+        state = next_state(state, *byte);
         if NO_TEXT <= state {
             return false;
         }
-        i = i + 1;
     }
     state == 0
 }

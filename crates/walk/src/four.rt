@@ -8,21 +8,14 @@ ghost use Rattle.walk.specs.Chains.{named_from_all, named_by_part, go_on, Record
 use crate::plain::{Passed, first_at, follow_plain};
 use crate::walk::visit;
 use index::ModuleIdx;
+use records::Records;
 
 // None of four chains has come to its end.
+#[tactic(auto, unfolding(crate::specs::Chains::go_on))]
 fn go_on(a: usize, b: usize, c: usize, d: usize) -> bool
     ensures { result ≡ go_on (a ∷ b ∷ c ∷ d ∷ []) }
 {
-    if a == 0 {
-        return false;
-    }
-    if b == 0 {
-        return false;
-    }
-    if c == 0 {
-        return false;
-    }
-    d != 0
+    a != 0 && b != 0 && c != 0 && d != 0
 }
 
 // Visits the modules that two records name.
@@ -103,7 +96,7 @@ fn follow_four(
         b = next[b] as usize;
         c = next[c] as usize;
         d = next[d] as usize;
-        count = count + 4;
+        count += 4;
     }
     let p = follow_two(flags, dependency, next, marks, queue, found, count, a, b);
     follow_two(flags, dependency, next, marks, queue, p.found, p.gone, c, d)
@@ -112,29 +105,37 @@ fn follow_four(
 // Follows the chains of the four modules from place `head` of the list on. Counts their records to those gone along before.
 pub fn take_four(
     flags: &[u8],
-    first: &[u32],
-    dependency: &[u32],
-    next: &[u32],
+    records: &Records,
     marks: &mut [u8],
     queue: &mut [u32],
     head: usize,
     tail: usize,
     gone: usize,
 ) -> Passed
-    requires { TakeFourReady flags.now first.now dependency.now next.now (length flags.now) (length next.now - 1)
+    requires { TakeFourReady flags.now records.now.first.now records.now.dependency.now records.now.next.now (length flags.now) (length records.now.next.now - 1)
         (record { marks = marks.old; queue = queue.old; tail = tail }) gone head }
     ensures visited { Visited flags.now (length flags.now)
-        (named_by_part first.now dependency.now next.now (length next.now - 1) queue.old head 4)
+        (named_by_part records.now.first.now records.now.dependency.now records.now.next.now (length records.now.next.now - 1) queue.old head 4)
         (record { marks = marks.old; queue = queue.old; tail = tail })
         (record { marks = marks.new; queue = queue.new; tail = result.found }) }
-    ensures gone_value { result.gone ≡ gone + length (named_by_part first.now dependency.now next.now
-        (length next.now - 1) queue.old head 4) }
+    ensures gone_value { result.gone ≡ gone + length (named_by_part records.now.first.now records.now.dependency.now records.now.next.now
+        (length records.now.next.now - 1) queue.old head 4) }
 {
-    let a = first_at(first, queue, head);
-    let b = first_at(first, queue, head + 1);
-    let c = first_at(first, queue, head + 2);
-    let d = first_at(first, queue, head + 3);
+    let a = first_at(records.first, queue, head);
+    let b = first_at(records.first, queue, head + 1);
+    let c = first_at(records.first, queue, head + 2);
+    let d = first_at(records.first, queue, head + 3);
     follow_four(
-        flags, dependency, next, marks, queue, tail, gone, a, b, c, d,
+        flags,
+        records.dependency,
+        records.next,
+        marks,
+        queue,
+        tail,
+        gone,
+        a,
+        b,
+        c,
+        d,
     )
 }

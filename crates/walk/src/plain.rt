@@ -7,6 +7,7 @@ ghost use Rattle.walk.specs.Chains.{named_from, FirstReady, FollowPlainReady};
 use crate::four::take_four;
 use crate::walk::visit;
 use index::ModuleIdx;
+use records::Records;
 
 // How many modules are on the list, and how many records were gone along.
 #[derive(Clone, Copy)]
@@ -48,7 +49,7 @@ pub fn follow_plain(
     while r != 0 {
         found = visit(flags, marks, queue, found, ModuleIdx(dependency[r]));
         r = next[r] as usize;
-        count = count + 1;
+        count += 1;
     }
     Passed { found, gone: count }
 }
@@ -64,40 +65,46 @@ pub struct Part {
 // than there are: then some chains share records. No chain has more records than there are, so no more than five times as many are gone along.
 pub fn walk_plain(
     flags: &[u8],
-    first: &[u32],
-    dependency: &[u32],
-    next: &[u32],
+    records: &Records,
     marks: &mut [u8],
     queue: &mut [u32],
     tail: usize,
 ) -> Part
-    requires { PlainReady flags.now first.now dependency.now next.now (length flags.now) (length next.now - 1)
+    requires { PlainReady flags.now records.now.first.now records.now.dependency.now records.now.next.now (length flags.now) (length records.now.next.now - 1)
         (record { marks = marks.old; queue = queue.old; tail = tail }) }
-    ensures { Walking flags.now first.now dependency.now next.now (length flags.now)
-        (length next.now - 1) (record { marks = marks.old; queue = queue.old; tail = tail }) result.head
+    ensures { Walking flags.now records.now.first.now records.now.dependency.now records.now.next.now (length flags.now)
+        (length records.now.next.now - 1) (record { marks = marks.old; queue = queue.old; tail = tail }) result.head
         (record { marks = marks.new; queue = queue.new; tail = result.found }) }
 {
     let mut found = tail;
     let mut gone = 0;
     let mut head = 0;
+    // No `for`: the list grows while it is read.
     while head < found {
-        if next.len() <= gone {
+        if records.next.len() <= gone {
             return Part { head, found };
         }
         if head + 4 <= found {
-            let passed = take_four(
-                flags, first, dependency, next, marks, queue, head, found, gone,
-            );
+            let passed = take_four(flags, records, marks, queue, head, found, gone);
             found = passed.found;
             gone = passed.gone;
-            head = head + 4;
+            head += 4;
             continue;
         }
-        let from = first_at(first, queue, head);
-        let passed = follow_plain(flags, dependency, next, marks, queue, found, gone, from);
+        let from = first_at(records.first, queue, head);
+        let passed = follow_plain(
+            flags,
+            records.dependency,
+            records.next,
+            marks,
+            queue,
+            found,
+            gone,
+            from,
+        );
         found = passed.found;
         gone = passed.gone;
-        head = head + 1;
+        head += 1;
     }
     Part { head, found }
 }

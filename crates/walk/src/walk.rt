@@ -9,6 +9,7 @@ ghost use Rattle.walk.specs.Walk.{WalkReady, MarkedReady, Walked, FollowReady, V
 use crate::plain::walk_plain;
 use forget::forget_all;
 use index::ModuleIdx;
+use records::Records;
 
 // A module that a chain names: it is marked and put on the list if it is eligible and not marked yet. Most that are named are marked, so this is asked
 // first.
@@ -39,30 +40,28 @@ pub fn visit(
 // been visited.
 fn follow(
     flags: &[u8],
-    first: &[u32],
-    dependency: &[u32],
-    next: &[u32],
+    records: &Records,
     marks: &mut [u8],
     queue: &mut [u32],
     followed: &mut [u8],
     tail: usize,
     of: ModuleIdx,
 ) -> usize
-    requires { FollowReady flags.now first.now dependency.now next.now (length flags.now) (length next.now - 1)
+    requires { FollowReady flags.now records.now.first.now records.now.dependency.now records.now.next.now (length flags.now) (length records.now.next.now - 1)
         (record { marks = marks.old; queue = queue.old; tail = tail }) of.0 followed.old }
     ensures of_value { foldl (visited flags.now) (record { marks = marks.old; queue = queue.old; tail = tail })
-        (dependencies first.now dependency.now next.now (length next.now - 1) of.0)
+        (dependencies records.now.first.now records.now.dependency.now records.now.next.now (length records.now.next.now - 1) of.0)
         ≡ record { marks = marks.new; queue = queue.new; tail = result } }
     ensures followed_after { followed.new
-        ≡ stored 1 (chain_of first.now next.now (length next.now - 1) of.0) followed.old }
+        ≡ stored 1 (chain_of records.now.first.now records.now.next.now (length records.now.next.now - 1) of.0) followed.old }
 {
     let at = of.0 as usize;
     let mut found = tail;
-    let mut r = first[at] as usize;
+    let mut r = records.first[at] as usize;
     while followed[r] == 0 {
         followed[r] = 1;
-        found = visit(flags, marks, queue, found, ModuleIdx(dependency[r]));
-        r = next[r] as usize;
+        found = visit(flags, marks, queue, found, ModuleIdx(records.dependency[r]));
+        r = records.next[r] as usize;
     }
     found
 }
@@ -71,32 +70,29 @@ fn follow(
 // Zero, which ends a chain, counts as followed. The marks are undone along the chains of the modules that it took off.
 fn walk_marked(
     flags: &[u8],
-    first: &[u32],
-    dependency: &[u32],
-    next: &[u32],
+    records: &Records,
     marks: &mut [u8],
     queue: &mut [u32],
     followed: &mut [u8],
     start: usize,
     tail: usize,
 ) -> usize
-    requires { MarkedReady flags.now first.now dependency.now next.now (length flags.now) (length next.now - 1)
+    requires { MarkedReady flags.now records.now.first.now records.now.dependency.now records.now.next.now (length flags.now) (length records.now.next.now - 1)
         start (record { marks = marks.old; queue = queue.old; tail = tail }) followed.old }
-    ensures walked { Walked flags.now first.now dependency.now next.now (length flags.now)
-        (length next.now - 1) marks.old (record { marks = marks.new; queue = queue.new; tail = result }) }
+    ensures walked { Walked flags.now records.now.first.now records.now.dependency.now records.now.next.now (length flags.now)
+        (length records.now.next.now - 1) marks.old (record { marks = marks.new; queue = queue.new; tail = result }) }
     ensures followed_after { followed.new ≡ unfollowed }
 {
     let mut found = tail;
     let mut head = start;
     followed[0] = 1;
+    // No `for`: the list grows while it is read.
     while head < found {
         let of = ModuleIdx(queue[head]);
-        found = follow(
-            flags, first, dependency, next, marks, queue, followed, found, of,
-        );
-        head = head + 1;
+        found = follow(flags, records, marks, queue, followed, found, of);
+        head += 1;
     }
-    forget_all(first, next, &queue[start..found], followed);
+    forget_all(records.first, records.next, &queue[start..found], followed);
     found
 }
 
@@ -104,25 +100,23 @@ fn walk_marked(
 // are marked as followed only once some are known to be shared.
 pub fn walk(
     flags: &[u8],
-    first: &[u32],
-    dependency: &[u32],
-    next: &[u32],
+    records: &Records,
     marks: &mut [u8],
     queue: &mut [u32],
     followed: &mut [u8],
     tail: usize,
 ) -> usize
-    requires { WalkReady flags.now first.now dependency.now next.now (length flags.now) (length next.now - 1)
+    requires { WalkReady flags.now records.now.first.now records.now.dependency.now records.now.next.now (length flags.now) (length records.now.next.now - 1)
         (record { marks = marks.old; queue = queue.old; tail = tail }) followed.old }
-    ensures walked { Walked flags.now first.now dependency.now next.now (length flags.now)
-        (length next.now - 1) marks.old (record { marks = marks.new; queue = queue.new; tail = result }) }
+    ensures walked { Walked flags.now records.now.first.now records.now.dependency.now records.now.next.now (length flags.now)
+        (length records.now.next.now - 1) marks.old (record { marks = marks.new; queue = queue.new; tail = result }) }
     ensures followed_after { followed.new ≡ unfollowed }
 {
-    let part = walk_plain(flags, first, dependency, next, marks, queue, tail);
+    let part = walk_plain(flags, records, marks, queue, tail);
     if part.found <= part.head {
         return part.found;
     }
     walk_marked(
-        flags, first, dependency, next, marks, queue, followed, part.head, part.found,
+        flags, records, marks, queue, followed, part.head, part.found,
     )
 }

@@ -12,14 +12,11 @@ pub fn total_exceeds(sizes: &[u64]) -> bool
     ensures { result ≡ total_exceeds sizes.now }
 {
     let mut total: u64 = 0;
-    let mut i = 0;
-    while i < sizes.len() {
-        let size = sizes[i];
-        if TOTAL_LIMIT - total < size {
+    for size in sizes {
+        if TOTAL_LIMIT - total < *size {
             return true;
         }
-        total = total + size;
-        i = i + 1;
+        total += *size;
     }
     false
 }

@@ -1,5 +1,5 @@
 -- `closed::some_left` meets its contract. The loop's invariant: each module before i has a chunk.
-use Prim.Native.Nat.{◌-◌, ◌≤◌}
+use Prim.Native.Nat.{◌≤◌}
 use mathlib.Core.Bool.{false}
 use mathlib.Core.Path.{◌≡◌}
 use lib.ListN.{length}
@@ -7,8 +7,5 @@ use Rattle.lists.specs.Below.{any_below}
 use Rattle.closed.specs.Closed.{left_at}
 use Rattle.closed.proofs.some_left.Given as goal
 
-abbrev pub invariant-loop-i : goal.invariant-loop-i
-invariant-loop-i l = (l.i ≤ length l.set) × (any_below (left_at l.chunk_of l.set) l.i ≡ false)
-
-abbrev pub decreases-loop-i : goal.decreases-loop-i
-decreases-loop-i l = length l.set - l.i
+abbrev pub invariant-loop-module : goal.invariant-loop-module
+invariant-loop-module l = (l.module-index ≤ length l.set) × (any_below (left_at l.chunk_of l.set) l.module-index ≡ false)

@@ -1,5 +1,5 @@
--- `contiguous::jumps` meets its contract. The loop's invariant: how many of the records from 1 to r are followed by another than their neighbour.
-use Prim.Native.Nat.{ℕ, suc, ◌≤◌, ◌-◌}
+-- `contiguous::jumps` meets its contract. The loop's invariant: how many of the records passed are followed by another than their neighbour.
+use Prim.Native.Nat.{ℕ, suc, ◌≤◌}
 use mathlib.Core.Bool.{Bool}
 use mathlib.Core.List.{List}
 use mathlib.Core.Path.{◌≡◌}
@@ -9,11 +9,8 @@ use Rattle.contiguous.specs.Jumps.{is_jump}
 use Rattle.contiguous.proofs.jumps.Given as goal
 
 -- whether record k + 1 is
-abbrev jumpAt : List ℕ → ℕ → Bool
+abbrev pub jumpAt : List ℕ → ℕ → Bool
 jumpAt next k = is_jump (suc k) (get_or next (suc k) 0)
 
-abbrev pub invariant-loop-r : goal.invariant-loop-r
-invariant-loop-r l = (l.r ≤ l.last) × (l.count ≤ l.r) × (l.count ≡ count_below (jumpAt l.next) l.r)
-
-abbrev pub decreases-loop-r : goal.decreases-loop-r
-decreases-loop-r l = l.last - l.r
+abbrev pub invariant-loop-i : goal.invariant-loop-i
+invariant-loop-i l = (l.count ≤ l.i) × (l.count ≡ count_below (jumpAt l.next) l.i)

@@ -1,5 +1,4 @@
--- `contiguous::lay_chains` meets its contract. The loop's invariant: the chains of the modules below m are laid below `at`. The measure is the
--- number of modules that are left.
+-- `contiguous::lay_chains` meets its contract. The loop's invariant: the chains of the modules below m are laid below `at`.
 use Prim.Native.Nat.{◌-◌}
 use lib.ListN.{length}
 use Rattle.contiguous.proofs.LaidTables.{LayingAll}
@@ -7,7 +6,4 @@ use Rattle.contiguous.proofs.lay_chains.Given as goal
 
 abbrev pub invariant-loop-m : goal.invariant-loop-m
 invariant-loop-m l =
-    LayingAll l.first l.dependency l.next (length l.first) (length l.next - 1) l.room l.initial.to_first l.initial.to_dependency l.initial.to_next l.m l.at l.to_first l.to_dependency l.to_next
-
-abbrev pub decreases-loop-m : goal.decreases-loop-m
-decreases-loop-m l = length l.first - l.m
+    LayingAll l.records.first.now l.records.dependency.now l.records.next.now (length l.records.first.now) (length l.records.next.now - 1) l.room l.initial.to_first l.initial.to_dependency l.initial.to_next l.m l.at l.to_first l.to_dependency l.to_next

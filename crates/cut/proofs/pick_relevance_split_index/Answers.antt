@@ -16,8 +16,8 @@ use Rattle.cut.proofs.pick_relevance_split_index.Goals as goal
 pub returns-then-n-gt-MODULE_LIMIT : goal.returns-then-n-gt-MODULE_LIMIT
 returns-then-n-gt-MODULE_LIMIT c = sym (too_many _ _ _ _ _ _ c.if-n-gt-MODULE_LIMIT.true)
 
-pub returns-then-offsets-n : goal.returns-then-offsets-n
-returns-then-offsets-n c = sym (offsets_missing _ _ _ _ _ _ c.if-n-gt-MODULE_LIMIT.false c.if-offsets-n.true)
+pub returns-then-ids-n : goal.returns-then-ids-n
+returns-then-ids-n c = sym (offsets_missing _ _ _ _ _ _ c.if-n-gt-MODULE_LIMIT.false c.if-ids-n.true)
 
 pub returns-then-sizes-n : goal.returns-then-sizes-n
 returns-then-sizes-n c = sym (sizes_missing _ _ _ _ _ _ c.if-n-gt-MODULE_LIMIT.false c.if-sizes-n.true)
@@ -26,14 +26,14 @@ pub returns-then-bad_offsets : goal.returns-then-bad_offsets
 returns-then-bad_offsets c =
     let few = c.if-n-gt-MODULE_LIMIT.false in
     let bad = sym c.bad_offsets.ensures ∙ c.if-bad_offsets.true in
-    sym (ids_bad _ _ _ _ _ _ few c.if-offsets-n.false c.if-sizes-n.false bad)
+    sym (ids_bad _ _ _ _ _ _ few c.if-ids-n.false c.if-sizes-n.false bad)
 
 pub returns-then-total_exceeds : goal.returns-then-total_exceeds
 returns-then-total_exceeds c =
-    let passed : let a = c.args in Passed a.n a.bytes.now a.offsets.now a.sizes.now =
+    let passed : let a = c.args in Passed a.n a.ids.now.bytes.now a.ids.now.offsets.now a.sizes.now =
     record {
       few = c.if-n-gt-MODULE_LIMIT.false;
-      all_offsets = c.if-offsets-n.false;
+      all_offsets = c.if-ids-n.false;
       all_sizes = c.if-sizes-n.false;
       good = sym c.bad_offsets.ensures ∙ c.if-bad_offsets.false;
     } in
@@ -41,10 +41,10 @@ returns-then-total_exceeds c =
 
 pub returns-then-is_nan : goal.returns-then-is_nan
 returns-then-is_nan c =
-    let passed : let a = c.args in Passed a.n a.bytes.now a.offsets.now a.sizes.now =
+    let passed : let a = c.args in Passed a.n a.ids.now.bytes.now a.ids.now.offsets.now a.sizes.now =
     record {
       few = c.if-n-gt-MODULE_LIMIT.false;
-      all_offsets = c.if-offsets-n.false;
+      all_offsets = c.if-ids-n.false;
       all_sizes = c.if-sizes-n.false;
       good = sym c.bad_offsets.ensures ∙ c.if-bad_offsets.false;
     } in
@@ -54,10 +54,10 @@ returns-then-is_nan c =
 
 pub returns-then-is_nan-2 : goal.returns-then-is_nan-2
 returns-then-is_nan-2 c =
-    let passed : let a = c.args in Passed a.n a.bytes.now a.offsets.now a.sizes.now =
+    let passed : let a = c.args in Passed a.n a.ids.now.bytes.now a.ids.now.offsets.now a.sizes.now =
     record {
       few = c.if-n-gt-MODULE_LIMIT.false;
-      all_offsets = c.if-offsets-n.false;
+      all_offsets = c.if-ids-n.false;
       all_sizes = c.if-sizes-n.false;
       good = sym c.bad_offsets.ensures ∙ c.if-bad_offsets.false;
     } in
@@ -68,23 +68,23 @@ returns-then-is_nan-2 c =
 
 pub pick_given-requires : goal.pick_given-requires
 pick_given-requires c =
-    let passed : let a = c.args in Passed a.n a.bytes.now a.offsets.now a.sizes.now =
+    let passed : let a = c.args in Passed a.n a.ids.now.bytes.now a.ids.now.offsets.now a.sizes.now =
     record {
       few = c.if-n-gt-MODULE_LIMIT.false;
-      all_offsets = c.if-offsets-n.false;
+      all_offsets = c.if-ids-n.false;
       all_sizes = c.if-sizes-n.false;
       good = sym c.bad_offsets.ensures ∙ c.if-bad_offsets.false;
     } in
     let small : total_exceeds c.args.sizes.now ≡ false =
     sym c.total_exceeds.ensures ∙ c.if-total_exceeds.false in
-    let all-passed : let a = c.args in Accepted a.n a.bytes.now a.offsets.now a.sizes.now a.minimum a.maximum =
+    let all-passed : let a = c.args in Accepted a.n a.ids.now.bytes.now a.ids.now.offsets.now a.sizes.now a.minimum a.maximum =
     record {
       tables = passed;
       small = small;
       minimum_given = sym c.is_nan.ensures ∙ c.if-is_nan.false;
       maximum_given = sym c.is_nan-2.ensures ∙ c.if-is_nan-2.false;
     } in
-    let given : let a = c.args in GivenOrder a.bytes.now a.offsets.now a.sizes.now =
+    let given : let a = c.args in GivenOrder a.ids.now.bytes.now a.ids.now.offsets.now a.sizes.now =
     let p = all-passed in
     record {
       few = omega (arith, p.tables.few, p.tables.all_sizes);
@@ -96,16 +96,16 @@ pick_given-requires c =
 
 pub returns : goal.returns
 returns c =
-    let passed : let a = c.args in Passed a.n a.bytes.now a.offsets.now a.sizes.now =
+    let passed : let a = c.args in Passed a.n a.ids.now.bytes.now a.ids.now.offsets.now a.sizes.now =
     record {
       few = c.if-n-gt-MODULE_LIMIT.false;
-      all_offsets = c.if-offsets-n.false;
+      all_offsets = c.if-ids-n.false;
       all_sizes = c.if-sizes-n.false;
       good = sym c.bad_offsets.ensures ∙ c.if-bad_offsets.false;
     } in
     let small : total_exceeds c.args.sizes.now ≡ false =
     sym c.total_exceeds.ensures ∙ c.if-total_exceeds.false in
-    let all-passed : let a = c.args in Accepted a.n a.bytes.now a.offsets.now a.sizes.now a.minimum a.maximum =
+    let all-passed : let a = c.args in Accepted a.n a.ids.now.bytes.now a.ids.now.offsets.now a.sizes.now a.minimum a.maximum =
     record {
       tables = passed;
       small = small;
@@ -115,5 +115,5 @@ returns c =
     let a = c.args in
     ap accepted
     (c.pick_given.ensures
-    ∙ ap (λ (n : ℕ). cut_of (ids_of n a.bytes.now a.offsets.now) a.sizes.now a.minimum a.maximum) (all-passed).tables.all_sizes)
+    ∙ ap (λ (n : ℕ). cut_of (ids_of n a.ids.now.bytes.now a.ids.now.offsets.now) a.sizes.now a.minimum a.maximum) (all-passed).tables.all_sizes)
     ∙ sym (accepts _ _ _ _ _ _ (all-passed))

@@ -4,16 +4,12 @@ use lib.Ieee.{Float}
 use lib.ListN.{length-map}
 use lib.Seq.{length-take-le, take-append_seam}
 use Rattle.lists.specs.Packed.{key_of}
-use Rattle.emitting.specs.Emitted.{Work}
-use Rattle.emitting.proofs.Chunk.{SameLengths}
+use Rattle.emitting.specs.Emitted.{Work, work, SameLengths}
+use Rattle.emitting.proofs.SameAreas.{same_areas, still_same}
 use Rattle.sets.specs.Built.{start_at, starts_of}
 use Rattle.entries_aware.proofs.Runs.{runs_together, walk_none, walk_number, walk_place, walk_more, walk_all}
 use Rattle.entries_aware.proofs.Runs.{run_row, run_length, run_room, run_positions, run_entries, run_ready}
 use Rattle.entries_aware.proofs.convert_divided.Goals as goal
-
-abbrev areas : List ℕ → List ℕ → List ℕ → List Float → List ℕ → List ℕ → Work
-areas chunk_of group_of name_of size_of bits_of mark_of =
-    record { chunk_of = chunk_of; group_of = group_of; name_of = name_of; size_of = size_of; bits_of = bits_of; mark_of = mark_of }
 
 -- ---- the n modules of a run, written to the front of a list
 
@@ -31,7 +27,7 @@ list_long set run new list {n} long is small all =
     omega (arith, length-append new (drop n list), length-drop n list, stored_long set run new long is)
 
 pub loop-from-init : goal.loop-from-init
-loop-from-init c = let a = c.args in (walk_none a.settings a.group a.name c.requires, refl, refl)
+loop-from-init c = let a = c.args in (walk_none a.settings a.group a.name c.requires, refl, refl, same_areas _)
 
 pub run_end-to-requires : goal.run_end-to-requires
 run_end-to-requires c = let a = c.args in (c.loop-from-test.true, runs_together a.settings a.group a.name c.requires)
@@ -127,9 +123,9 @@ overflow_add-number c =
 
 pub overflow_add-at : goal.overflow_add-at
 overflow_add-at c =
-    let place-small : c.args.at + c.loop-from.made ≤ length c.loop-from.group_of =
+    let place-small : c.args.at + c.loop-from.made ≤ length c.loop-from.areas.group_of.now =
     let a = c.args in walk_place a.settings a.group a.name c.requires c.loop-from.invariant.0 in
-    omega (arith, place-small, c.loop-from.invariant.0.lengths.group_of, c.well_formed.1.1.1.1.1.1.1.1.1.1.1.1.1.1.1.0)
+    omega (arith, place-small, c.room-room.ensures.count, c.room-room.ensures.small)
 
 pub convert_item_to_chunks-more-requires : goal.convert_item_to_chunks-more-requires
 convert_item_to_chunks-more-requires c =
@@ -159,17 +155,7 @@ overflow_add-made c =
     let is = front_is a.set.now _ c.store_starts.new.set rest long c.store_starts.ensures in
     let l = c.loop-from in
     let m = c.convert_item_to_chunks-more in
-    let n = m.new in
-    let kept : SameLengths (areas n.chunk_of n.group_of n.name_of n.size_of n.bits_of n.mark_of)
-    (areas l.chunk_of l.group_of l.name_of l.size_of l.bits_of l.mark_of) =
-    record {
-      chunk_of = m.auto.chunk_of;
-      group_of = m.auto.group_of;
-      name_of = m.auto.name_of;
-      size_of = m.auto.size_of;
-      bits_of = m.auto.bits_of;
-      mark_of = m.auto.mark_of;
-    } in
+    let kept = m.ensures.same.lengths in
     let turned = walk_more a.settings a.group a.name c.requires w e.ensures _ is c.row-own.result c.row-own.ensures kept m.ensures.converted in
     omega (arith, walk_number a.settings a.group a.name c.requires turned)
 
@@ -188,45 +174,21 @@ loop-from-preserved c =
     let is = front_is a.set.now _ c.store_starts.new.set rest long c.store_starts.ensures in
     let l = c.loop-from in
     let m = c.convert_item_to_chunks-more in
-    let n = m.new in
-    let kept : SameLengths (areas n.chunk_of n.group_of n.name_of n.size_of n.bits_of n.mark_of)
-    (areas l.chunk_of l.group_of l.name_of l.size_of l.bits_of l.mark_of) =
-    record {
-      chunk_of = m.auto.chunk_of;
-      group_of = m.auto.group_of;
-      name_of = m.auto.name_of;
-      size_of = m.auto.size_of;
-      bits_of = m.auto.bits_of;
-      mark_of = m.auto.mark_of;
-    } in
+    let kept = m.ensures.same.lengths in
     let turned = walk_more a.settings a.group a.name c.requires w e.ensures _ is c.row-own.result c.row-own.ensures kept m.ensures.converted in (
       turned,
       list_long a.set.now _ c.store_starts.new.set l.list long c.store_starts.ensures (omega (arith, room, c.requires.few)) l.invariant.1,
       m.auto.members ∙ l.invariant.2,
+      still_same l.invariant.3 m.ensures.same,
     )
 
 pub shape_of-members : goal.shape_of-members
 shape_of-members c = c.loop-from.invariant.2
 
-pub shape_of-chunk_of : goal.shape_of-chunk_of
-shape_of-chunk_of c = c.loop-from.invariant.0.lengths.chunk_of
-
-pub shape_of-group_of : goal.shape_of-group_of
-shape_of-group_of c = c.loop-from.invariant.0.lengths.group_of
-
-pub shape_of-name_of : goal.shape_of-name_of
-shape_of-name_of c = c.loop-from.invariant.0.lengths.name_of
-
-pub shape_of-size_of : goal.shape_of-size_of
-shape_of-size_of c = c.loop-from.invariant.0.lengths.size_of
-
-pub shape_of-bits_of : goal.shape_of-bits_of
-shape_of-bits_of c = c.loop-from.invariant.0.lengths.bits_of
-
-pub shape_of-mark_of : goal.shape_of-mark_of
-shape_of-mark_of c = c.loop-from.invariant.0.lengths.mark_of
-
-pub returns : goal.returns
-returns c =
+pub returns-clause-emitted : goal.returns-clause-emitted
+returns-clause-emitted c =
     let a = c.args in
     walk_all a.settings a.group a.name c.requires c.loop-from.invariant.0 c.loop-from-test.false
+
+pub returns-clause-same : goal.returns-clause-same
+returns-clause-same c = c.loop-from.invariant.3

@@ -1,7 +1,7 @@
 -- `entries_aware::convert_divided` meets its contract. The loop's invariant: the subgroups whose runs are passed have had their turns.
 use Rattle.std.proofs.Common.{◌≡◌, ℕ, ◌-◌, List, length}
 use lib.Ieee.{Float}
-use Rattle.emitting.specs.Emitted.{Work}
+use Rattle.emitting.specs.Emitted.{SameAreas, work}
 use Rattle.items.specs.Turn.{Tables}
 use Rattle.entries_aware.proofs.Runs.{Walked}
 use Rattle.entries_aware.proofs.convert_divided.Given as goal
@@ -9,15 +9,11 @@ use Rattle.entries_aware.proofs.convert_divided.Given as goal
 abbrev tables : List ℕ → List ℕ → List ℕ → List ℕ → Tables
 tables bytes offsets sizes rank = record { bytes = bytes; offsets = offsets; sizes = sizes; rank = rank }
 
-abbrev areas : List ℕ → List ℕ → List ℕ → List Float → List ℕ → List ℕ → Work
-areas chunk_of group_of name_of size_of bits_of mark_of =
-    record { chunk_of = chunk_of; group_of = group_of; name_of = name_of; size_of = size_of; bits_of = bits_of; mark_of = mark_of }
-
 abbrev pub invariant-loop-from : goal.invariant-loop-from
 invariant-loop-from l =
-    Walked l.settings l.group l.name (tables l.bytes l.offsets l.sizes l.rank) l.bits l.set l.kind_bits l.divided l.number.0 l.at
-    (areas l.initial.chunk_of l.initial.group_of l.initial.name_of l.initial.size_of l.initial.bits_of l.initial.mark_of) l.from l.made (areas l.chunk_of l.group_of l.name_of l.size_of l.bits_of l.mark_of)
-    × (length l.list ≡ 4096) × (length l.members ≡ length l.initial.members)
+    Walked l.settings l.group l.name (tables l.ids.bytes.now l.ids.offsets.now l.sizes l.rank) l.bits l.set l.kind_bits l.divided l.number.0 l.at
+    (work l.initial.areas) l.from l.made (work l.areas)
+    × (length l.list ≡ 4096) × (length l.members ≡ length l.initial.members) × SameAreas l.initial.areas l.areas
 
 abbrev pub decreases-loop-from : goal.decreases-loop-from
 decreases-loop-from l = length l.divided - l.from

@@ -1,24 +1,19 @@
 -- `flags::bad_flags` meets its contract. The loop's invariant: whether some flag byte passed is above 7.
-use mathlib.Core.Path.{◌≡◌, refl, ap, ◌∙◌}
-use native.Mathlib.Numerals.{add-one}
-use native.Mathlib.Omega.{arith}
+use mathlib.Core.Path.{refl}
+use Rattle.std.proofs.Common.{◌<◌, ltb, arith, get_or, get_or-take, length-take-le}
 use Rattle.lists.specs.Below.{any_below}
+use Rattle.lists.proofs.Below.{any_last}
 use Rattle.flags.specs.Flags.{bad_flags}
 use Rattle.flags.proofs.bad_flags.Goals as goal
 
-pub loop-m-init : goal.loop-m-init
+pub loop-byte-init : goal.loop-byte-init
 unfolding bad_flags any_below
-loop-m-init c = (omega arith, refl)
+loop-byte-init c = refl
 
-pub loop-m-preserved : goal.loop-m-preserved
-unfolding bad_flags any_below
-loop-m-preserved c =
-    let l = c.loop-m in
-    (omega arith, rw (l.invariant.1, add-one l.m))
-
-pub returns : goal.returns
-returns c =
+pub loop-byte-preserved : goal.loop-byte-preserved
+unfolding bad_flags
+loop-byte-preserved c =
     let s = c.args in
-    let l = c.loop-m in
-    let e : l.m ≡ s.n = omega arith in
-    l.invariant.1 ∙ ap (bad_flags s.flags.now) e
+    let i = c.loop-byte.byte-index in
+    let h : i < s.n = omega (arith, length-take-le s.n s.flags.now c.requires) in
+    rw (c.loop-byte.invariant, get_or-take s.n s.flags.now i 0 h) (any_last (λ m. ltb 7 (get_or s.flags.now m 0)) i)

@@ -4,8 +4,5 @@ use lib.ListN.{length}
 use Rattle.forget.proofs.Undoing.{AllForgetting}
 use Rattle.forget.proofs.forget_all.Given as goal
 
-abbrev pub invariant-loop-i : goal.invariant-loop-i
-invariant-loop-i l = AllForgetting l.first l.next l.list (length l.next - 1) l.i l.followed
-
-abbrev pub decreases-loop-i : goal.decreases-loop-i
-decreases-loop-i l = length l.list - l.i
+abbrev pub invariant-loop-m : goal.invariant-loop-m
+invariant-loop-m l = AllForgetting l.first l.next l.list (length l.next - 1) l.m-index l.followed

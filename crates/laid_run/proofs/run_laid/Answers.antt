@@ -17,16 +17,10 @@ lay_chains-count-requires c =
 pub slice_bounds-to_first-end : goal.slice_bounds-to_first-end
 slice_bounds-to_first-end c = let p = c.requires.running in omega (arith, few_modules p.b _ _ p.fits)
 
-pub slice_bounds-run-end : goal.slice_bounds-run-end
-slice_bounds-run-end c =
+pub slice_bounds-laid-end : goal.slice_bounds-laid-end
+slice_bounds-laid-end c =
     let p = c.requires.running in
     sym (length-take-le c.args.n c.lay_chains-count.new.to_first (omega (arith, few_modules p.b _ _ p.fits)))
-
-pub slice_bounds-run-end-2 : goal.slice_bounds-run-end-2
-slice_bounds-run-end-2 c = sym (length-take-le c.lay_chains-count.result _ c.lay_chains-count.ensures.modules)
-
-pub slice_bounds-run-end-3 : goal.slice_bounds-run-end-3
-slice_bounds-run-end-3 c = sym (length-take-le c.lay_chains-count.result _ c.lay_chains-count.ensures.nexts)
 
 pub run-requires-2 : goal.run-requires-2
 run-requires-2 c =
@@ -41,13 +35,13 @@ run-requires-2 c =
       room = p.room;
     }
 
-pub returns : goal.returns
-returns c =
+pub returns-clause-written : goal.returns-clause-written
+returns-clause-written c =
     record {
       of_build = λ b fits.
           let same =
           of_build b _ _ fits c.lay_chains-count.new.to_first
           (⊎_elim (λ none. absurd (omega arith)) (λ laid. laid) c.lay_chains-count.ensures.laid) in
           ran_same b _ _ _ _ fits.tables.passed same _ _ _ _
-          (c.run-2.ensures.of_build _ (relaid_fits b _ _ _ _ fits.tables.passed same _ _ fits));
+          (c.run-2.ensures.written.of_build _ (relaid_fits b _ _ _ _ fits.tables.passed same _ _ fits));
     }

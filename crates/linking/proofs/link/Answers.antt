@@ -1,78 +1,61 @@
--- `linking::link` meets its contract. The loop's invariant: the modules from place `left` on are pushed.
-use Prim.Native.Nat.{ℕ, ◌-◌, ◌<◌}
-use mathlib.Core.List.{List}
-use native.Mathlib.Omega.{arith}
-use lib.ListN.{length, get_or}
-use Rattle.linking.specs.Links.{Links}
-use Rattle.linking.proofs.OneMore.{push_start, push_end, push_none, push_some}
+-- `linking::link` meets its contract: the module of a turn is the one before those so far.
+use Rattle.std.proofs.Common.{◌≡◌, ℕ, ◌+◌, ◌-◌, ◌<◌, List, length, get_or, sym, ap, ◌∙◌, subst, arith}
+use Rattle.std.proofs.lemmas.Iterator.Adapters.{YieldsList-from_rev_slice}
+use Rattle.std.proofs.lemmas.Iterator.Consumers.{YieldsList-turn}
+use Rattle.std.proofs.lemmas.List.{length_push}
+use Rattle.emitting.proofs.Backwards.{back_item}
+use Rattle.linking.specs.Links.{Links, pushed_at, slot_of}
+use Rattle.linking.proofs.OneMore.{Pushing, push_start, push_none, push_some}
 use Rattle.linking.proofs.link.Goals as goal
 
 abbrev links : List ℕ → List ℕ → Links
 links next_of first_of = record { next_of = next_of; first_of = first_of }
 
-pub loop-left-init : goal.loop-left-init
-loop-left-init c =
+-- one module fewer is to come
+next_left : {order chunk_of : List ℕ} {base at : ℕ} {entry now : Links} (k k' : ℕ) → k' ≡ k + 1
+    → Pushing order chunk_of base at entry now (length order - k - 1) → Pushing order chunk_of base at entry now (length order - k')
+next_left {order} {chunk_of} {base} {at} {entry} {now} k k' e p =
+    let same : length order - k - 1 ≡ length order - k' = omega arith in
+    subst (λ (n : ℕ). Pushing order chunk_of base at entry now n) same p
+
+sub_order : (order : List ℕ) (k : ℕ) → length order - k - 1 ≡ length order - 1 - k
+sub_order order k = omega arith
+
+pub loop-m-init : goal.loop-m-init
+loop-m-init c =
     let a = c.args in
-    push_start a.order.now a.chunk_of.now a.base a.at (links a.next_of.now a.first_of.now)
+    let all : length a.order.now ≡ length a.order.now - 0 = omega arith in
+    let entry = links a.next_of.now a.first_of.now in
+    subst (λ (n : ℕ). Pushing a.order.now a.chunk_of.now a.base a.at entry entry n) all (push_start a.order.now a.chunk_of.now a.base a.at entry)
 
-pub overflow_cast-c : goal.overflow_cast-c
-overflow_cast-c c = omega (arith, c.type_inv.order (c.loop-left.left - 1))
-
-pub offset_bounds-chunk_of-m : goal.offset_bounds-chunk_of-m
-offset_bounds-chunk_of-m c = omega (arith, c.type_inv.order (c.loop-left.left - 1))
-
-pub bounds-chunk_of-m : goal.bounds-chunk_of-m
-bounds-chunk_of-m c =
-    c.requires.numbered (c.loop-left.left - 1) (omega arith)
-
-pub overflow_sub-slot : goal.overflow_sub-slot
-overflow_sub-slot c =
-    omega (arith, c.requires.number (c.loop-left.left - 1) (omega arith) (omega arith))
-
-pub overflow_sub-slot-then-c-gt0 : goal.overflow_sub-slot-then-c-gt0
-overflow_sub-slot-then-c-gt0 c =
-    omega (arith, c.requires.number (c.loop-left.left - 1) (omega arith) (omega arith))
-
-pub overflow_cast-slot : goal.overflow_cast-slot
-overflow_cast-slot c =
-    let given = c.type_inv.chunk_of (get_or c.args.order.now (c.loop-left.left - 1) 0) in
-    omega (arith, given)
-
-pub overflow_add-slot : goal.overflow_add-slot
-overflow_add-slot c =
-    omega (arith, c.requires.record_in (c.loop-left.left - 1) (omega arith) (omega arith))
-
-pub push_front-requires : goal.push_front-requires
-push_front-requires c =
-    let inside : c.loop-left.left - 1 < length c.args.order.now = omega arith in
-    record {
-      fits = c.requires.fits (c.loop-left.left - 1) inside;
-      module_in = rw c.loop-left.invariant.nexts (c.requires.chained (c.loop-left.left - 1) inside);
-      record_in = rw c.loop-left.invariant.firsts (c.requires.record_in (c.loop-left.left - 1) inside (omega arith));
-    }
-
-pub loop-left-smaller-then-c-gt0 : goal.loop-left-smaller-then-c-gt0
-loop-left-smaller-then-c-gt0 c = omega (arith, c.loop-left-test.true)
-
-pub loop-left-preserved-then-c-gt0 : goal.loop-left-preserved-then-c-gt0
-loop-left-preserved-then-c-gt0 c =
+pub loop-m-preserved-then-c-gt0 : goal.loop-m-preserved-then-c-gt0
+loop-m-preserved-then-c-gt0 c =
     let a = c.args in
-    push_some a.order.now a.chunk_of.now a.base a.at (links a.next_of.now a.first_of.now)
-    c.loop-left.invariant c.loop-left-test.true (omega arith) _ c.push_front.ensures
+    let l = c.loop-m in
+    let o = a.order.now in
+    let k = length l.yielded in
+    let turn = YieldsList-turn (YieldsList-from_rev_slice o (cc)) l.yielded _ l.yielded_by _ _ c.in-Some.m c.in-Some.is c.next.ensures.steps in
+    let item = back_item o k c.in-Some.m.now turn in
+    let left : 0 < length o - k = omega (arith, item.0) in
+    let place : get_or o (length o - k - 1) 0 ≡ c.in-Some.m.now = ap (λ (n : ℕ). get_or o n 0) (sub_order o k) ∙ sym item.1 in
+    let of : List ℕ = a.chunk_of.now in
+    let some : 0 < get_or of c.in-Some.m.now 0 = omega arith in
+    let now : Links = links l.next_of l.first_of in
+    let after : Links = links c.push_front.new.next_of c.push_front.new.first_of in
+    next_left k _ (length_push l.yielded c.in-Some.m)
+    (push_some o of a.base a.at (links a.next_of.now a.first_of.now) l.invariant left (subst (λ (n : ℕ). 0 < get_or of n 0) (sym place) some) after
+    (subst (λ (n : ℕ). after ≡ pushed_at (slot_of a.base a.at (get_or of n 0)) n now) (sym place) c.push_front.ensures))
 
-pub loop-left-preserved : goal.loop-left-preserved
-loop-left-preserved c =
+pub loop-m-preserved : goal.loop-m-preserved
+loop-m-preserved c =
     let a = c.args in
-    push_none a.order.now a.chunk_of.now a.base a.at (links a.next_of.now a.first_of.now)
-    c.loop-left.invariant c.loop-left-test.true (omega arith)
-
-pub shape_of-next_of : goal.shape_of-next_of
-shape_of-next_of c = c.loop-left.invariant.nexts
-
-pub shape_of-first_of : goal.shape_of-first_of
-shape_of-first_of c = c.loop-left.invariant.firsts
-
-pub returns : goal.returns
-returns c =
-    let a = c.args in
-    push_end a.order.now a.chunk_of.now a.base a.at (links a.next_of.now a.first_of.now) c.loop-left.invariant (omega arith)
+    let l = c.loop-m in
+    let o = a.order.now in
+    let k = length l.yielded in
+    let turn = YieldsList-turn (YieldsList-from_rev_slice o (cc)) l.yielded _ l.yielded_by _ _ c.in-Some.m c.in-Some.is c.next.ensures.steps in
+    let item = back_item o k c.in-Some.m.now turn in
+    let left : 0 < length o - k = omega (arith, item.0) in
+    let place : get_or o (length o - k - 1) 0 ≡ c.in-Some.m.now = ap (λ (n : ℕ). get_or o n 0) (sub_order o k) ∙ sym item.1 in
+    next_left k _ (length_push l.yielded c.in-Some.m)
+    (push_none o a.chunk_of.now a.base a.at (links a.next_of.now a.first_of.now) l.invariant left
+    (ap (λ (n : ℕ). get_or a.chunk_of.now n 0) place ∙ omega arith))

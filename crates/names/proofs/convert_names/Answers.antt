@@ -9,6 +9,7 @@ use lib.Seq.{length-take-le, length_front}
 use Rattle.walk.proofs.Trail.{unfollowed_bytes}
 use Rattle.matching.proofs.KeysTogether.{keys_together}
 use Rattle.closed.proofs.ClosedSets.{live_bytes, closed_as}
+use Rattle.emitting.proofs.SameAreas.{same_areas, still_same}
 use Rattle.names.proofs.SetOfRun.{names_ascend, run_is, set_ready}
 use Rattle.names.proofs.NameSteps.{names_start, number_now, place_now, count_in, number_next, names_next, names_turned}
 use Rattle.names.proofs.NameSteps.{set_entries, set_flags, set_offered, closed_then}
@@ -18,11 +19,12 @@ pub loop-from-init : goal.loop-from-init
 loop-from-init c =
     let room = c.requires.names_room.0 in (
       names_start,
-      c.clear_bytes.ensures ∙ ap (λ (k : ℕ). replicate k 0) (room.mark_bytes ∙ sym room.modules),
+      (c.fill.ensures.after (λ y e. e)) ∙ ap (λ (k : ℕ). replicate k 0) (room.mark_bytes ∙ sym room.modules),
       refl,
       refl,
       room.clear,
       c.requires.names_room.1,
+      same_areas _,
     )
 
 pub run_end-to-requires : goal.run_end-to-requires
@@ -113,7 +115,7 @@ overflow_add-number c =
 
 pub overflow_add-at : goal.overflow_add-at
 overflow_add-at c =
-    omega (arith, place_now c.requires.names_turning c.loop-from.invariant.0, c.well_formed.1.1.1.1.1.1.1.1.1.1.1.1.1.1.1.1.1.1.1.1.1.1.1.0)
+    omega (arith, place_now c.requires.names_turning c.loop-from.invariant.0, c.room-room.ensures.count, c.room-room.ensures.small)
 
 pub convert_set-made-requires : goal.convert_set-made-requires
 convert_set-made-requires c =
@@ -176,7 +178,7 @@ close_set-requires c =
         arith,
         set_entries p v.0 c.run_end-to.ensures c.can_close-closing.result c.can_close-closing.ensures v.5 b.ensures.set_built i
             h,
-        c.convert_set-made.auto.chunk_of,
+        c.convert_set-made.ensures.same.lengths.chunk_of,
       ),
       λ i h. omega (
         arith,
@@ -210,30 +212,12 @@ shape_of-set c = c.loop-from.invariant.2
 pub shape_of-scratch : goal.shape_of-scratch
 shape_of-scratch c = c.loop-from.invariant.3
 
-pub shape_of-chunk_of : goal.shape_of-chunk_of
-shape_of-chunk_of c = c.loop-from.invariant.0.lengths.chunk_of
-
-pub shape_of-group_of : goal.shape_of-group_of
-shape_of-group_of c = c.loop-from.invariant.0.lengths.group_of
-
-pub shape_of-name_of : goal.shape_of-name_of
-shape_of-name_of c = c.loop-from.invariant.0.lengths.name_of
-
-pub shape_of-size_of : goal.shape_of-size_of
-shape_of-size_of c = c.loop-from.invariant.0.lengths.size_of
-
-pub shape_of-bits_of : goal.shape_of-bits_of
-shape_of-bits_of c = c.loop-from.invariant.0.lengths.bits_of
-
-pub shape_of-mark_of : goal.shape_of-mark_of
-shape_of-mark_of c = c.loop-from.invariant.0.lengths.mark_of
-
 pub returns : goal.returns
 returns c =
     let marks-kept : length c.loop-from.marks ≡ length c.args.marks.now =
     let room = c.requires.names_room.0 in
     ap length c.loop-from.invariant.1 ∙ length-replicate (length c.args.flags.now) 0 ∙ room.modules ∙ sym room.mark_bytes in
-    let v = c.loop-from.invariant in record { names_turned = names_turned v.0 c.loop-from-test.false; marks_len_unchanged = (marks-kept, v.2, v.3, v.4, v.5) }
+    let v = c.loop-from.invariant in record { names_turned = names_turned v.0 c.loop-from-test.false; marks_len_unchanged = (marks-kept, v.2, v.3, v.4, v.5); same = v.6 }
 
 pub loop-from-preserved : goal.loop-from-preserved
 loop-from-preserved c =
@@ -241,14 +225,14 @@ loop-from-preserved c =
     length_front c.loop-from.scratch ((c.build_left-count.new.queue)) c.args.n c.build_left-count.auto.queue ∙ c.loop-from.invariant.3 in
     let v = c.loop-from.invariant in
     let b = c.build_left-count in
-    let same = c.convert_set-made.auto in
     let long = live_bytes c.args.flags.now c.loop-from.closed c.can_close-closing.result v.5.bytes in (
       names_next c.requires.names_turning v.0 c.run_end-to.ensures c.can_close-closing.result c.can_close-closing.ensures v.5 b.ensures.set_built c.convert_set-made.ensures.set_taken
-          (record { chunk_of = same.chunk_of; group_of = same.group_of; name_of = same.name_of; size_of = same.size_of; bits_of = same.bits_of; mark_of = same.mark_of }),
+          c.convert_set-made.ensures.same.lengths,
       b.ensures.marks_after.0 ∙ ap (λ (c : ℕ). replicate c 0) long,
       b.auto.set ∙ v.2,
       c.convert_set-made.ensures.scratch_len_unchanged ∙ scratch-back,
       b.ensures.marks_after.1,
       closed_as c.close_set.ensures
           (closed_then c.requires.names_turning v.0 c.run_end-to.ensures c.can_close-closing.result c.can_close-closing.ensures v.5 b.ensures.set_built c.convert_set-made.ensures.set_taken),
+      still_same v.6 c.convert_set-made.ensures.same,
     )

@@ -20,24 +20,6 @@ pub emit_pieces-requires : goal.emit_pieces-requires
 emit_pieces-requires c =
     let h : length c.args.order.now ≤ 256 = omega arith in record { pieces_ready = c.requires; lent = record { similar_length = length-take-le _ _ h; sums_length = length-take-le _ _ h; starts_room = h; totals_room = h; marks_room = h } }
 
-pub shape_of-chunk_of-then-n-le256 : goal.shape_of-chunk_of-then-n-le256
-shape_of-chunk_of-then-n-le256 c = c.emit_pieces.auto.chunk_of
-
-pub shape_of-group_of-then-n-le256 : goal.shape_of-group_of-then-n-le256
-shape_of-group_of-then-n-le256 c = c.emit_pieces.auto.group_of
-
-pub shape_of-name_of-then-n-le256 : goal.shape_of-name_of-then-n-le256
-shape_of-name_of-then-n-le256 c = c.emit_pieces.auto.name_of
-
-pub shape_of-size_of-then-n-le256 : goal.shape_of-size_of-then-n-le256
-shape_of-size_of-then-n-le256 c = c.emit_pieces.auto.size_of
-
-pub shape_of-bits_of-then-n-le256 : goal.shape_of-bits_of-then-n-le256
-shape_of-bits_of-then-n-le256 c = c.emit_pieces.auto.bits_of
-
-pub shape_of-mark_of-then-n-le256 : goal.shape_of-mark_of-then-n-le256
-shape_of-mark_of-then-n-le256 c = c.emit_pieces.auto.mark_of
-
 pub slice_bounds-emit_pieces-end-2 : goal.slice_bounds-emit_pieces-end-2
 slice_bounds-emit_pieces-end-2 c =
     sym (length-take-le _ _ c.requires.pending.few)
@@ -49,21 +31,3 @@ slice_bounds-emit_pieces-end-3 c =
 pub emit_pieces-requires-2 : goal.emit_pieces-requires-2
 emit_pieces-requires-2 c =
     let h = c.requires.pending.few in record { pieces_ready = c.requires; lent = record { similar_length = length-take-le _ _ h; sums_length = length-take-le _ _ h; starts_room = h; totals_room = h; marks_room = h } }
-
-pub shape_of-chunk_of : goal.shape_of-chunk_of
-shape_of-chunk_of c = c.emit_pieces-2.auto.chunk_of
-
-pub shape_of-group_of : goal.shape_of-group_of
-shape_of-group_of c = c.emit_pieces-2.auto.group_of
-
-pub shape_of-name_of : goal.shape_of-name_of
-shape_of-name_of c = c.emit_pieces-2.auto.name_of
-
-pub shape_of-size_of : goal.shape_of-size_of
-shape_of-size_of c = c.emit_pieces-2.auto.size_of
-
-pub shape_of-bits_of : goal.shape_of-bits_of
-shape_of-bits_of c = c.emit_pieces-2.auto.bits_of
-
-pub shape_of-mark_of : goal.shape_of-mark_of
-shape_of-mark_of c = c.emit_pieces-2.auto.mark_of

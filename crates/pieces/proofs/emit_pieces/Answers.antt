@@ -46,6 +46,6 @@ slice_bounds-emit_parts-end-6 c =
 pub emit_parts-requires : goal.emit_parts-requires
 emit_parts-requires c = record { parts = pieces_parts c.requires.pieces_ready c.args.minimum c.args.maximum c.split_oversized-count.ensures; starts_bound = pieces_numbers c.requires.pieces_ready c.args.minimum c.args.maximum c.split_oversized-count.ensures }
 
-pub returns : goal.returns
-returns c =
-    pieces_converted c.requires.pieces_ready c.args.minimum c.args.maximum c.split_oversized-count.ensures c.args.head c.emit_parts.ensures
+pub returns-clause-emitted : goal.returns-clause-emitted
+returns-clause-emitted c =
+    pieces_converted c.requires.pieces_ready c.args.minimum c.args.maximum c.split_oversized-count.ensures c.args.head c.emit_parts.ensures.emitted

@@ -1,34 +1,25 @@
--- `records::all_ascend` meets its contract. The loop's invariant: whether the records from 1 to r ascend.
-use Prim.Native.Nat.{ℕ, suc}
-use mathlib.Core.Bool.{Bool, ◌||◌}
-use mathlib.Core.List.{List}
+-- `records::all_ascend` meets its contract. The loop's invariant: whether the records before r ascend.
+use Prim.Native.Nat.{suc, ◌-◌}
 use mathlib.Core.Path.{◌≡◌, refl, ap, ◌∙◌}
-use native.Mathlib.Numerals.{add-one}
 use native.Mathlib.Omega.{arith}
-use lib.Dec.{eqb, ltb}
-use lib.ListN.{get_or}
 use Rattle.lists.specs.Below.{all_below}
 use Rattle.records.specs.Ascending.{all_ascend}
+use Rattle.records.proofs.FromOne.{all_next}
+use Rattle.records.proofs.all_ascend.Invariants.{ascends}
 use Rattle.records.proofs.all_ascend.Goals as goal
-
--- whether record k + 1 ascends
-abbrev ascends : List ℕ → ℕ → Bool
-ascends next k = eqb (get_or next (suc k) 0) 0 || ltb (suc k) (get_or next (suc k) 0)
 
 pub loop-r-init : goal.loop-r-init
 unfolding all_below
-loop-r-init c = (omega arith, refl)
+loop-r-init c = refl
 
 pub loop-r-preserved : goal.loop-r-preserved
-unfolding all_below
 loop-r-preserved c =
     let l = c.loop-r in
-    (omega arith, rw (l.invariant.1, add-one l.r))
+    rw l.invariant (all_next (ascends c.args.next.now) l.r (omega arith))
 
 pub returns : goal.returns
 unfolding all_ascend
 returns c =
-    let s = c.args in
     let l = c.loop-r in
-    let e : l.r ≡ s.d = omega arith in
-    l.invariant.1 ∙ ap (all_below (ascends s.next.now)) e
+    let e : l.r - 1 ≡ c.args.d = omega arith in
+    l.invariant ∙ ap (all_below (λ k. ascends c.args.next.now (suc k))) e

@@ -1,6 +1,6 @@
 -- `records::bad_chain` meets its contract. The outer loop's invariant: every chain passed has its zero within d records, and so has that of every
 -- known record. The inner one: the chain from `start` has its zero within some records more just where the rest of it, from record r on, has.
-use Prim.Native.Nat.{ℕ, ◌≤◌, ◌<◌, ◌-◌}
+use Prim.Native.Nat.{ℕ, ◌≤◌, ◌<◌}
 use mathlib.Core.Bool.{false, not}
 use mathlib.Core.Path.{◌≡◌}
 use lib.ListN.{length, get_or}
@@ -17,7 +17,4 @@ decreases-loop-r l = l.left
 
 abbrev pub invariant-modules : goal.invariant-modules
 invariant-modules l =
-    (l.bad ≡ false) × (l.m ≤ l.n) × ((k : ℕ) → k < l.m → not (ended l.next l.d (get_or l.first k 0)) ≡ false) × Known l.next l.d l.known × (length l.known ≡ length l.initial.known)
-
-abbrev pub decreases-modules : goal.decreases-modules
-decreases-modules l = l.n - l.m
+    (l.bad ≡ false) × ((k : ℕ) → k < l.from-index → not (ended l.next l.d (get_or l.first k 0)) ≡ false) × Known l.next l.d l.known × (length l.known ≡ length l.initial.known)

@@ -1,34 +1,19 @@
 -- `records::bad_first` meets its contract. The loop's invariant: whether some first record passed is above d.
-use Prim.Native.Nat.{ℕ}
-use mathlib.Core.Bool.{Bool}
-use mathlib.Core.List.{List}
-use mathlib.Core.Path.{◌≡◌, refl, ap, ◌∙◌}
-use native.Mathlib.Numerals.{add-one}
-use native.Mathlib.Omega.{arith}
-use lib.Dec.{ltb}
-use lib.ListN.{get_or}
+use mathlib.Core.Path.{refl}
+use Rattle.std.proofs.Common.{◌<◌, ltb, arith, get_or, get_or-take, length-take-le}
 use Rattle.lists.specs.Below.{any_below}
+use Rattle.lists.proofs.Below.{any_last}
 use Rattle.records.specs.Bad.{bad_first}
 use Rattle.records.proofs.bad_first.Goals as goal
 
--- whether the first record of module k is bad
-abbrev above : List ℕ → ℕ → ℕ → Bool
-above first d k = ltb d (get_or first k 0)
+pub loop-record-init : goal.loop-record-init
+unfolding bad_first any_below
+loop-record-init c = refl
 
-pub loop-m-init : goal.loop-m-init
-unfolding any_below
-loop-m-init c = (omega arith, refl)
-
-pub loop-m-preserved : goal.loop-m-preserved
-unfolding any_below
-loop-m-preserved c =
-    let l = c.loop-m in
-    (omega arith, rw (l.invariant.1, add-one l.m))
-
-pub returns : goal.returns
+pub loop-record-preserved : goal.loop-record-preserved
 unfolding bad_first
-returns c =
+loop-record-preserved c =
     let s = c.args in
-    let l = c.loop-m in
-    let e : l.m ≡ s.n = omega arith in
-    l.invariant.1 ∙ ap (any_below (above s.first.now s.d)) e
+    let i = c.loop-record.record-index in
+    let h : i < s.n = omega (arith, length-take-le s.n s.first.now c.requires.0) in
+    rw (c.loop-record.invariant, get_or-take s.n s.first.now i 0 h) (any_last (λ m. ltb s.d (get_or s.first.now m 0)) i)

@@ -10,21 +10,17 @@ use Rattle.run.specs.Finished.{unlinked}
 use Rattle.run.proofs.Zeros.{unlinked_is}
 use Rattle.run.proofs.finish.Goals as goal
 
-pub slice_bounds-clear_words-end-2 : goal.slice_bounds-clear_words-end-2
-slice_bounds-clear_words-end-2 c =
-    sym (length-take-le c.args.n c.args.next_of.now c.requires.modules)
-
 pub link-requires : goal.link-requires
 link-requires c =
     let emptied : unlinked c.args.n c.args.at c.args.made ((record { next_of = c.args.next_of.now; first_of = c.args.first_of.now }))
     ≡ record {
-      next_of = c.clear_words.new.area ++ drop c.args.n c.args.next_of.now;
+      next_of = c.fill.new.self ++ drop c.args.n c.args.next_of.now;
       first_of =
-          put_mid c.args.at (c.args.at + c.args.made - c.args.at) c.args.first_of.now c.clear_words-2.new.area;
+          put_mid c.args.at (c.args.at + c.args.made - c.args.at) c.args.first_of.now c.fill-2.new.self;
     } =
-    let first = c.clear_words in
-    unlinked_is c.args.n c.args.at c.args.made ((record { next_of = c.args.next_of.now; first_of = c.args.first_of.now })) first.new.area c.clear_words-2.new.area c.requires.modules c.requires.records
-    first.ensures c.clear_words-2.ensures in
+    let first = c.fill in
+    unlinked_is c.args.n c.args.at c.args.made ((record { next_of = c.args.next_of.now; first_of = c.args.first_of.now })) first.new.self c.fill-2.new.self c.requires.modules c.requires.records
+    (first.ensures.after (λ y e. e)) (c.fill-2.ensures.after (λ y e. e)) in
     subst (Linkable c.args.order.now c.args.chunk_of.now c.args.on_entry c.args.at)
     (emptied)
     c.requires.linkable
@@ -33,15 +29,15 @@ pub returns : goal.returns
 returns c =
     let emptied : unlinked c.args.n c.args.at c.args.made ((record { next_of = c.args.next_of.now; first_of = c.args.first_of.now }))
     ≡ record {
-      next_of = c.clear_words.new.area ++ drop c.args.n c.args.next_of.now;
+      next_of = c.fill.new.self ++ drop c.args.n c.args.next_of.now;
       first_of =
-          put_mid c.args.at (c.args.at + c.args.made - c.args.at) c.args.first_of.now c.clear_words-2.new.area;
+          put_mid c.args.at (c.args.at + c.args.made - c.args.at) c.args.first_of.now c.fill-2.new.self;
     } =
-    let first = c.clear_words in
-    unlinked_is c.args.n c.args.at c.args.made ((record { next_of = c.args.next_of.now; first_of = c.args.first_of.now })) first.new.area c.clear_words-2.new.area c.requires.modules c.requires.records
-    first.ensures c.clear_words-2.ensures in
+    let first = c.fill in
+    unlinked_is c.args.n c.args.at c.args.made ((record { next_of = c.args.next_of.now; first_of = c.args.first_of.now })) first.new.self c.fill-2.new.self c.requires.modules c.requires.records
+    (first.ensures.after (λ y e. e)) (c.fill-2.ensures.after (λ y e. e)) in
     record {
       chains = c.link.ensures ∙ ap (linked c.args.chunk_of.now c.args.on_entry c.args.at c.args.order.now)
           (sym (emptied));
-      cleared = c.clear_words-3.ensures;
+      cleared = (c.fill-3.ensures.after (λ y e. e));
     }

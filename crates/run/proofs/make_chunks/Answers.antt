@@ -21,9 +21,6 @@ slice_bounds-into_priority_sorted_groups-end c = sym (length-take-le c.args.g ze
 pub into_priority_sorted_groups-requires : goal.into_priority_sorted_groups-requires
 into_priority_sorted_groups-requires c = rw (length-take-le c.args.g zeros (making_groups c.requires)) (making_groups c.requires)
 
-pub slice_bounds-clear_words-end-2 : goal.slice_bounds-clear_words-end-2
-slice_bounds-clear_words-end-2 c = sym (length-take-le c.args.n c.args.chunk_of.now (making_modules c.requires))
-
 pub slice_bounds-turns-end-2 : goal.slice_bounds-turns-end-2
 slice_bounds-turns-end-2 c =
     front_room zeros c.into_priority_sorted_groups.new.turns c.args.g c.into_priority_sorted_groups.auto.turns (making_groups c.requires)
@@ -33,22 +30,25 @@ slice_bounds-convert_groups_to_chunks-end c =
     sym (length-take-le c.args.g (c.into_priority_sorted_groups.new.turns ++ drop c.args.g zeros)
     (front_room zeros c.into_priority_sorted_groups.new.turns c.args.g c.into_priority_sorted_groups.auto.turns (making_groups c.requires)))
 
+pub clear_numbers-requires : goal.clear_numbers-requires
+clear_numbers-requires c = making_modules c.requires
+
 pub convert_groups_to_chunks-requires : goal.convert_groups_to_chunks-requires
 convert_groups_to_chunks-requires c =
     let p = c.requires in
     let in_order =
     turns_are p.b _ _ p.fits.tables zeros c.into_priority_sorted_groups.new.turns (making_groups p) c.into_priority_sorted_groups.auto.turns
     c.into_priority_sorted_groups.ensures in
-    let fresh = fresh_areas p.b _ _ c.clear_words.new.area p.fits.tables.modules p.room.modules c.clear_words.ensures in
+    let fresh = fresh_areas p.b _ _ _ p.fits.tables.modules p.room.modules c.clear_numbers.ensures in
     record { groups_turning = groups_turning p.b _ _ p.fits _ in_order _ _ _ fresh p.room p.small; n_in_bounds = p.work }
 
-pub returns : goal.returns
-returns c =
+pub returns-clause-emitted : goal.returns-clause-emitted
+returns-clause-emitted c =
     record {
       of_build = λ b fits room.
           let in_order =
           turns_are b _ _ fits.tables zeros c.into_priority_sorted_groups.new.turns (making_groups c.requires)
           c.into_priority_sorted_groups.auto.turns c.into_priority_sorted_groups.ensures in
-          let fresh = fresh_areas b _ _ c.clear_words.new.area fits.tables.modules room.modules c.clear_words.ensures in
+          let fresh = fresh_areas b _ _ _ fits.tables.modules room.modules c.clear_numbers.ensures in
           all_made b _ _ fits _ in_order _ _ _ fresh room _ _ c.convert_groups_to_chunks.ensures.groups_turned;
     }

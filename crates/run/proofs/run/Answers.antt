@@ -40,14 +40,14 @@ finish-requires c =
     let b = c.requires.b in
     let fits = run_places b _ _ c.requires.fits c.keep_eligible-count.ensures in
     let room = run_room b _ _ _ _ c.requires.fits c.requires.room in
-    run_finishing b _ _ _ _ fits c.requires.room _ _ (c.make_chunks-made.ensures.of_build b fits room)
+    run_finishing b _ _ _ _ fits c.requires.room _ _ (c.make_chunks-made.ensures.emitted.of_build b fits room)
 
-pub returns : goal.returns
-returns c =
+pub returns-clause-written : goal.returns-clause-written
+returns-clause-written c =
     record {
       of_build = λ b fits.
           let placed = run_places b _ _ fits c.keep_eligible-count.ensures in
           let room = run_room b _ _ _ _ fits c.requires.room in
-          run_ran b _ _ _ _ placed c.requires.room _ _ (c.make_chunks-made.ensures.of_build b placed room) _ _ _ c.make_chunks-made.auto.scratch
+          run_ran b _ _ _ _ placed c.requires.room _ _ (c.make_chunks-made.ensures.emitted.of_build b placed room) _ _ _ c.make_chunks-made.auto.scratch
           c.finish.ensures;
     }

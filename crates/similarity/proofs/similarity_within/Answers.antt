@@ -1,13 +1,12 @@
--- `similarity::similarity_within` meets its contract. The invariant: the score so far and the similarity from byte i on add to the
--- whole similarity, and the score is at most 10 for each byte passed.
+-- `similarity::similarity_within` meets its contract: each pair adds its score, of at most 10, and where either id ends nothing is left.
 use Prim.Native.Nat.{◌≤◌}
-use native.Mathlib.Nat.{zero-add}
+use mathlib.Core.Logic.{⊎_elim}
+use mathlib.Core.Path.{◌≡◌, ap}
 use native.Mathlib.Omega.{arith}
-use Rattle.similarity.proofs.SimilarityLaws.{byte_score_le, from_done, from_pair}
+use lib.ListN.{length}
+use Rattle.similarity.specs.Similarity.{similarity}
+use Rattle.similarity.proofs.SimilarityLaws.{byte_score_le, first_pair, nothing_left, nothing_right}
 use Rattle.similarity.proofs.similarity_within.Goals as goal
-
-pub loop-i-init : goal.loop-i-init
-loop-i-init c = (omega arith, zero-add _, omega arith)
 
 pub overflow_cast-score : goal.overflow_cast-score
 overflow_cast-score c =
@@ -17,18 +16,19 @@ overflow_cast-score c =
 pub overflow_add-score : goal.overflow_add-score
 overflow_add-score c =
     let le : c.byte_score.result ≤ 10 = rw c.byte_score.ensures (byte_score_le _ _) in
-    omega arith
+    omega (arith, ap length c.in-Some.ensures.steps.0, c.loop-left.invariant.1)
 
-pub loop-i-preserved : goal.loop-i-preserved
-loop-i-preserved c =
-    let a = c.args in
-    let s = c.loop-i in
+pub loop-left-preserved : goal.loop-left-preserved
+loop-left-preserved c =
     let le : c.byte_score.result ≤ 10 = rw c.byte_score.ensures (byte_score_le _ _) in
-    let step = from_pair a.lhs.now a.rhs.now s.i (omega arith) (omega arith) in
-    (omega arith, omega (arith, c.byte_score.ensures, step, s.invariant.1), omega arith)
+    let s = c.in-Some.ensures.steps in
+    let e = first_pair s.0 s.1 in
+    (omega (arith, e, c.loop-left.invariant.0, c.byte_score.ensures), omega (arith, ap length s.0, c.loop-left.invariant.1))
 
 pub returns : goal.returns
 returns c =
-    let a = c.args in
-    let s = c.loop-i in
-    omega (arith, from_done a.lhs.now a.rhs.now s.i (omega arith), s.invariant.1)
+    let left = c.loop-left.left-iterator.a.rest.now in
+    let right = c.loop-left.left-iterator.b.rest.now in
+    let none : similarity left right ≡ 0 =
+    ⊎_elim (λ p. nothing_left left right p.1.0) (λ p. nothing_right left right p.1.0) c.in-None.ensures.steps in
+    omega (arith, none, c.loop-left.invariant.0)

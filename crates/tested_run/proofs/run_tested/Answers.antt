@@ -19,9 +19,9 @@ run-requires c =
       room = p.room;
     }
 
-pub returns : goal.returns
-returns c =
+pub returns-clause-written : goal.returns-clause-written
+returns-clause-written c =
     record {
       of_build = λ b fits.
-          c.run.ensures.of_build b (run_fits b _ fits c.all_settings-settings.result c.all_settings-settings.ensures);
+          c.run.ensures.written.of_build b (run_fits b _ fits c.all_settings-settings.result c.all_settings-settings.ensures);
     }

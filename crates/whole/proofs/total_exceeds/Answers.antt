@@ -27,19 +27,18 @@ within l i t h e p = sym (le-ltb total_limit (sum l) (omega (arith, ap sum (take
 one_more : (l : List ℕ) (i t : ℕ) → i < length l → t ≡ sum (take i l) → t + get_or l i 0 ≡ sum (take (i + 1) l)
 one_more l i t h e = ap (λ n. n + get_or l i 0) e ∙ sym (sum_take_suc l i h) ∙ ap (λ n. sum (take n l)) (sym (add-one i))
 
-pub loop-i-init : goal.loop-i-init
+pub loop-size-init : goal.loop-size-init
 unfolding sum
-loop-i-init c = (omega arith, refl, omega arith)
+loop-size-init c = (refl, omega arith)
 
 pub returns-then-total-size : goal.returns-then-total-size
-returns-then-total-size c = passes _ c.loop-i.i _ (omega arith) c.loop-i.invariant.1 (omega arith)
+returns-then-total-size c = passes _ c.loop-size.size-index _ (omega arith) c.loop-size.invariant.0 (omega arith)
 
-pub loop-i-preserved : goal.loop-i-preserved
-loop-i-preserved c = (
-  omega arith,
-  one_more c.args.sizes.now c.loop-i.i _ (omega arith) c.loop-i.invariant.1,
+pub loop-size-preserved : goal.loop-size-preserved
+loop-size-preserved c = (
+  one_more c.args.sizes.now c.loop-size.size-index _ (omega arith) c.loop-size.invariant.0,
   omega arith,
 )
 
 pub returns : goal.returns
-returns c = within _ c.loop-i.i _ (omega arith) c.loop-i.invariant.1 (omega arith)
+returns c = within _ c.loop-size.size-index _ (omega arith) c.loop-size.invariant.0 (omega arith)

@@ -42,7 +42,7 @@ pub loop-i-preserved : goal.loop-i-preserved
 loop-i-preserved c =
     let a = c.args in
     let l = a.sizes.now in
-    let f = candidate_at (ids_of (length l) a.bytes.now a.offsets.now) l in
+    let f = candidate_at (ids_of (length l) a.ids.now.bytes.now a.ids.now.offsets.now) l in
     let bounds : Bounds = record { minimum = a.minimum; maximum = a.maximum } in
     let i = c.loop-i.i in
     let v = c.loop-i.invariant in
@@ -57,7 +57,7 @@ loop-i-preserved c =
       omega arith,
       on_left ∙ ap (λ (n : ℕ). sum_f64 (take n l)) (sym (add-sub_cancel i 1)),
       c.look_at-best.ensures
-          ∙ ap₂ (considered bounds) v.3 (place_given a.bytes.now a.offsets.now l i v.0 inside left right on_left on_right)
+          ∙ ap₂ (considered bounds) v.3 (place_given a.ids.now.bytes.now a.ids.now.offsets.now l i v.0 inside left right on_left on_right)
           ∙ looked_at bounds f i v.0,
     )
 
@@ -65,9 +65,9 @@ pub returns : goal.returns
 returns c =
     let a = c.args in
     let l = a.sizes.now in
-    let ids = ids_of (length l) a.bytes.now a.offsets.now in
+    let ids = ids_of (length l) a.ids.now.bytes.now a.ids.now.offsets.now in
     let i = c.loop-i.i in
-    let all : i - 1 ≡ length ids - 1 = omega (arith, ids_length (length l) a.bytes.now a.offsets.now) in
+    let all : i - 1 ≡ length ids - 1 = omega (arith, ids_length (length l) a.ids.now.bytes.now a.ids.now.offsets.now) in
     c.into_cut.ensures
-    ∙ ap₂ chosen_from (sym (ids_length (length l) a.bytes.now a.offsets.now)) c.loop-i.invariant.3
+    ∙ ap₂ chosen_from (sym (ids_length (length l) a.ids.now.bytes.now a.ids.now.offsets.now)) c.loop-i.invariant.3
     ∙ scan_cuts (record { minimum = a.minimum; maximum = a.maximum }) ids l (i - 1) all

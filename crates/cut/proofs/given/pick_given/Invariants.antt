@@ -9,7 +9,7 @@ use Rattle.whole.specs.Double.{sum_f64}
 use Rattle.ids.specs.Parts.{ids_of}
 use Rattle.cut.specs.Candidate.{candidate_at}
 use Rattle.cut.specs.Scan.{considered}
-use Rattle.cut.specs.declared.scan.Best.TheVariants.{Nothing}
+use Rattle.std.specs.Prelude.{None}
 use Rattle.cut.proofs.given.pick_given.Given as goal
 
 abbrev pub invariant-loop-i : goal.invariant-loop-i
@@ -17,7 +17,4 @@ invariant-loop-i l =
     (1 ≤ l.i)
     × (l.i - 1 ≤ length l.sizes - 1)
     × (l.left ≡ sum_f64 (take (l.i - 1) l.sizes))
-    × (l.best ≡ foldl (considered l.bounds) Nothing (map (candidate_at (ids_of (length l.sizes) l.bytes l.offsets) l.sizes) (range 1 (l.i - 1))))
-
-abbrev pub decreases-loop-i : goal.decreases-loop-i
-decreases-loop-i l = length l.sizes - l.i
+    × (l.best ≡ foldl (considered l.bounds) None (map (candidate_at (ids_of (length l.sizes) l.ids.bytes.now l.ids.offsets.now) l.sizes) (range 1 (l.i - 1))))

@@ -7,8 +7,7 @@ use lib.ListN.{length}
 use Rattle.lists.specs.Range.{range}
 use Rattle.cut.specs.Scan.{considered, chosen_from}
 use Rattle.cut.specs.declared.candidate.Candidate.{Candidate}
-use Rattle.cut.specs.declared.scan.Best.{Best}
-use Rattle.cut.specs.declared.scan.Best.TheVariants.{Nothing}
+use Rattle.std.specs.Prelude.{Option, None}
 use Rattle.cut.specs.declared.scan.Bounds.{Bounds}
 use Rattle.cut.proofs.Scanning.{scan_cuts, looked_at}
 use Rattle.cut.proofs.FromTables.{candidate_from, places_tabled}
@@ -29,7 +28,7 @@ loop-i-preserved c =
     let bounds : Bounds = record { minimum = a.minimum; maximum = a.maximum } in
     let i = c.loop-i.i in
     let v = c.loop-i.invariant in
-    (omega arith, omega arith, c.consider-best.ensures ∙ ap (λ (b : Best). considered bounds b (f i)) v.2 ∙ looked_at bounds f i v.0)
+    (omega arith, omega arith, c.consider-best.ensures ∙ ap (λ (b : Option Candidate). considered bounds b (f i)) v.2 ∙ looked_at bounds f i v.0)
 
 pub returns : goal.returns
 returns c m =
@@ -41,5 +40,5 @@ returns c m =
     let all_ids : i - 1 ≡ length m.ids - 1 = omega (arith, m.as_many) in
     c.into_cut.ensures
     ∙ ap₂ chosen_from (sym m.as_many) v.2
-    ∙ ap (λ (cs : List Candidate). chosen_from (length m.ids) (foldl (considered bounds) Nothing cs)) (places_tabled a.similar.now a.sums.now a.total m (i - 1) all)
+    ∙ ap (λ (cs : List Candidate). chosen_from (length m.ids) (foldl (considered bounds) None cs)) (places_tabled a.similar.now a.sums.now a.total m (i - 1) all)
     ∙ scan_cuts bounds m.ids m.sizes (i - 1) all_ids

@@ -5,7 +5,7 @@ use mathlib.Core.Path.{◌≡◌}
 use lib.ListN.{length}
 use Rattle.lists.specs.Range.{range}
 use Rattle.cut.specs.Scan.{considered}
-use Rattle.cut.specs.declared.scan.Best.TheVariants.{Nothing}
+use Rattle.std.specs.Prelude.{None}
 use Rattle.cut.proofs.FromTables.{candidate_from}
 use Rattle.cut.proofs.tabled.pick_by_similarity.Given as goal
 
@@ -13,7 +13,4 @@ abbrev pub invariant-loop-i : goal.invariant-loop-i
 invariant-loop-i l =
     (1 ≤ l.i)
     × (l.i - 1 ≤ length l.similar - 1)
-    × (l.best ≡ foldl (considered l.bounds) Nothing (map (candidate_from l.similar l.sums l.total) (range 1 (l.i - 1))))
-
-abbrev pub decreases-loop-i : goal.decreases-loop-i
-decreases-loop-i l = length l.similar - l.i
+    × (l.best ≡ foldl (considered l.bounds) None (map (candidate_from l.similar l.sums l.total) (range 1 (l.i - 1))))

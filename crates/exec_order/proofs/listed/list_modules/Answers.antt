@@ -16,10 +16,10 @@ use Rattle.exec_order.proofs.listed.list_modules.Goals.{else-is_listed, then-is_
 
 pub loop-m-init : goal.loop-m-init
 unfolding keep range
-loop-m-init c = (omega arith, omega arith, none_kept c.args.list.now)
+loop-m-init c = (omega arith, none_kept c.args.list.now)
 
 pub shape_of-list : goal.shape_of-list
-shape_of-list c = c.loop-m.invariant.2.same_length
+shape_of-list c = c.loop-m.invariant.1.same_length
 
 pub returns : goal.returns
 unfolding listed_in
@@ -27,7 +27,7 @@ returns c =
     let l = c.loop-m in
     let a = c.args in
     let e : l.m ≡ length a.flags.now = omega arith in
-    subst (λ (n : ℕ). Kept (keep (λ k. listed (get_or a.flags.now k 0)) (range 0 n)) l.count a.list.now l.list) e l.invariant.2
+    subst (λ (n : ℕ). Kept (keep (λ k. listed (get_or a.flags.now k 0)) (range 0 n)) l.count a.list.now l.list) e l.invariant.1
 
 pub loop-m-preserved : goal.loop-m-preserved
 loop-m-preserved c =
@@ -38,12 +38,10 @@ loop-m-preserved c =
     (elim c.if-is_listed.branch [
       | then-is_listed w ↦ (
         omega arith,
-        omega arith,
-        subst₂ K (sym (keep_range_in p l.m (sym c.is_listed.ensures ∙ w.if-is_listed.true))) (sym w.count-is) (kept_in l.invariant.2 l.m (omega arith)),
+        subst₂ K (sym (keep_range_in p l.m (sym c.is_listed.ensures ∙ w.if-is_listed.true))) (sym w.count-is) (kept_in l.invariant.1 l.m (omega arith)),
       )
       | else-is_listed w ↦ (
         omega arith,
-        omega arith,
-        subst₂ K (sym (keep_range_out p l.m (sym c.is_listed.ensures ∙ w.if-is_listed.false))) (sym w.count-is) (kept_out l.invariant.2 l.m),
+        subst₂ K (sym (keep_range_out p l.m (sym c.is_listed.ensures ∙ w.if-is_listed.false))) (sym w.count-is) (kept_out l.invariant.1 l.m),
       )
     ])

@@ -1,6 +1,6 @@
 -- `exec_order::listed::list_modules` meets its contract. The loop's invariant: the listed modules below m are kept.
-use Prim.Native.Nat.{◌-◌, ◌≤◌}
-use lib.ListN.{length, get_or}
+use Prim.Native.Nat.{◌≤◌}
+use lib.ListN.{get_or}
 use Rattle.lists.specs.Keep.{keep}
 use Rattle.lists.specs.Range.{range}
 use Rattle.flags.specs.Flags.{listed}
@@ -9,7 +9,4 @@ use Rattle.exec_order.proofs.listed.list_modules.Given as goal
 
 abbrev pub invariant-loop-m : goal.invariant-loop-m
 invariant-loop-m l =
-    (l.m ≤ length l.flags) × (l.count ≤ l.m) × Kept (keep (λ k. listed (get_or l.flags k 0)) (range 0 l.m)) l.count l.initial.list l.list
-
-abbrev pub decreases-loop-m : goal.decreases-loop-m
-decreases-loop-m l = length l.flags - l.m
+    (l.count ≤ l.m) × Kept (keep (λ k. listed (get_or l.flags k 0)) (range 0 l.m)) l.count l.initial.list l.list

@@ -1,13 +1,13 @@
 -- `gentropi::merges::gentropi_merge` meets its contract: the number is that of the callee's answer, and the areas are as the callee left them.
 use mathlib.Core.Path.{ap}
 use Rattle.refusal.proofs.Calls.{exported}
-use Rattle.merge.specs.Call.{outcome_of}
+use Rattle.refusal.specs.Answers.{outcome_of}
 use Rattle.gentropi.proofs.merges.gentropi_merge.Goals as goal
 
-pub returns-in-Refused : goal.returns-in-Refused
-returns-in-Refused c =
-    exported (ap outcome_of c.in-Refused.is) c.merge_entries_aware_subgroups-answer.ensures
+pub returns-in-Err : goal.returns-in-Err
+returns-in-Err c =
+    rw c.number.ensures (exported (ap outcome_of c.in-Err.is) c.merge_entries_aware_subgroups-answer.ensures)
 
-pub returns-in-Done : goal.returns-in-Done
-returns-in-Done c =
-    exported (ap outcome_of c.in-Done.is) c.merge_entries_aware_subgroups-answer.ensures
+pub returns-in-Ok : goal.returns-in-Ok
+returns-in-Ok c =
+    exported (ap outcome_of c.in-Ok.is) c.merge_entries_aware_subgroups-answer.ensures

@@ -36,4 +36,4 @@ convert_names-requires c =
 
 pub returns : goal.returns
 returns c =
-    let kept = c.match_group-count.auto.matched in record { group_turned = group_turned c.match_group-count.ensures c.convert_names.ensures.names_turned; marks_len_unchanged = (c.convert_names.ensures.marks_len_unchanged.0, c.convert_names.ensures.marks_len_unchanged.1, kept, c.convert_names.ensures.marks_len_unchanged.2, c.convert_names.ensures.marks_len_unchanged.3, c.convert_names.ensures.marks_len_unchanged.4) }
+    let kept = c.match_group-count.auto.matched in record { group_turned = group_turned c.match_group-count.ensures c.convert_names.ensures.names_turned; marks_len_unchanged = (c.convert_names.ensures.marks_len_unchanged.0, c.convert_names.ensures.marks_len_unchanged.1, kept, c.convert_names.ensures.marks_len_unchanged.2, c.convert_names.ensures.marks_len_unchanged.3, c.convert_names.ensures.marks_len_unchanged.4); same = c.convert_names.ensures.same }

@@ -6,8 +6,7 @@ use lib.ListN.{length, take, drop, replicate, length-replicate}
 use lib.Seq.{length-take-le, length_front, take_at}
 use Rattle.lists.proofs.Stored.{zeros}
 use Rattle.forget.specs.Unfollowed.{unfollowed}
-use Rattle.walk.proofs.Trail.{unfollowed_bytes}
-use Rattle.emitting.proofs.Chunk.{same_lengths}
+use Rattle.emitting.proofs.SameAreas.{same_areas, still_same}
 use Rattle.closed.proofs.ClosedSets.{closed_none, closed_as}
 use Rattle.names.proofs.OrderOf.{places_free}
 use Rattle.groups.proofs.Turning.{none_turned, next_turning, one_turned, all_turned, number_small, record_in}
@@ -34,120 +33,87 @@ slice_bounds-closed-end c =
       given_few c.requires.groups_turning,
     )
 
-pub slice_bounds-copy_bytes-end : goal.slice_bounds-copy_bytes-end
-slice_bounds-copy_bytes-end c =
+pub slice_bounds-copy_from_slice-end : goal.slice_bounds-copy_from_slice-end
+slice_bounds-copy_from_slice-end c =
     sym (zeros-front c.args.n (given_few c.requires.groups_turning))
 
-pub copy_bytes-requires : goal.copy_bytes-requires
-copy_bytes-requires c =
-    given_flags c.requires.groups_turning ∙ sym (zeros-front c.args.n (given_few c.requires.groups_turning))
+pub copy_from_slice-requires : goal.copy_from_slice-requires
+copy_from_slice-requires c =
+    zeros-front c.args.n (given_few c.requires.groups_turning) ∙ sym (given_flags c.requires.groups_turning)
 
-pub loop-i-init : goal.loop-i-init
+pub loop-turn-init : goal.loop-turn-init
 unfolding unfollowed
-loop-i-init c =
+loop-turn-init c =
     let p = c.requires.groups_turning in
     let n = c.args.n in
-    let r = c.copy_bytes in
-    let front = r.new.to in (
+    let r = c.copy_from_slice in
+    let front = r.new.self in (
       none_turned,
-      same_lengths _,
+      same_areas _,
       refl,
       length-replicate {A = ℕ} 4096 0,
       length-replicate {A = ℕ} 4096 0,
       length-replicate {A = ℕ} 4096 0,
       refl,
-      length_front (replicate 4096 0) front n r.auto.to ∙ length-replicate {A = ℕ} 4096 0,
-      closed_as (take_at front (drop n (replicate 4096 0)) n (ap length r.ensures ∙ given_flags p) ∙ r.ensures)
-          (closed_none c.args.flags.now c.args.first.now c.args.dependency.now c.args.next.now c.args.chunk_of.now),
+      length_front (replicate 4096 0) front n r.auto.self ∙ length-replicate {A = ℕ} 4096 0,
+      closed_as (take_at front (drop n (replicate 4096 0)) n (ap length r.ensures.after ∙ given_flags p) ∙ r.ensures.after)
+          (closed_none c.args.flags.now c.args.records.now.first.now c.args.records.now.dependency.now c.args.records.now.next.now c.args.areas.now.chunk_of.now),
     )
 
-pub offset_bounds-turns-i : goal.offset_bounds-turns-i
-offset_bounds-turns-i c = omega (arith, c.loop-i-test.true, c.well_formed.1.0)
-
-pub bounds-turns-i : goal.bounds-turns-i
-bounds-turns-i c = c.loop-i-test.true
-
-pub overflow_cast-g : goal.overflow_cast-g
-overflow_cast-g c = omega (arith, group_small c.requires.groups_turning c.loop-i.i c.loop-i-test.true)
-
 pub overflow_mul-from : goal.overflow_mul-from
-overflow_mul-from c = omega (arith, row_small c.requires.groups_turning c.loop-i.i c.loop-i-test.true)
+overflow_mul-from c = omega (arith, row_small c.requires.groups_turning c.loop-turn.turn-index c.loop-turn-test.true)
 
 pub overflow_add-to : goal.overflow_add-to
-overflow_add-to c = omega (arith, row_small c.requires.groups_turning c.loop-i.i c.loop-i-test.true)
-
-pub offset_bounds-settings-g : goal.offset_bounds-settings-g
-offset_bounds-settings-g c = omega (arith, group_small c.requires.groups_turning c.loop-i.i c.loop-i-test.true)
+overflow_add-to c = omega (arith, row_small c.requires.groups_turning c.loop-turn.turn-index c.loop-turn-test.true)
 
 pub bounds-settings-g : goal.bounds-settings-g
-bounds-settings-g c = group_small c.requires.groups_turning c.loop-i.i c.loop-i-test.true
-
-pub offset_bounds-turns-i-in-loop-i : goal.offset_bounds-turns-i-in-loop-i
-offset_bounds-turns-i-in-loop-i c = omega (arith, c.loop-i-test.true, c.well_formed.1.0)
-
-pub bounds-turns-i-in-loop-i : goal.bounds-turns-i-in-loop-i
-bounds-turns-i-in-loop-i c = c.loop-i-test.true
+bounds-settings-g c = group_small c.requires.groups_turning c.loop-turn.turn-index c.loop-turn-test.true
 
 pub offset_bounds-answers-from : goal.offset_bounds-answers-from
-offset_bounds-answers-from c = omega (arith, row_small c.requires.groups_turning c.loop-i.i c.loop-i-test.true)
-
-pub slice_bounds-convert_group-count : goal.slice_bounds-convert_group-count
-slice_bounds-convert_group-count c = omega (arith, row_small c.requires.groups_turning c.loop-i.i c.loop-i-test.true)
-
-pub slice_bounds-convert_group-start : goal.slice_bounds-convert_group-start
-slice_bounds-convert_group-start c = omega (arith, row_small c.requires.groups_turning c.loop-i.i c.loop-i-test.true)
+offset_bounds-answers-from c = omega (arith, row_small c.requires.groups_turning c.loop-turn.turn-index c.loop-turn-test.true)
 
 pub slice_bounds-convert_group-end : goal.slice_bounds-convert_group-end
-slice_bounds-convert_group-end c = row_within c.requires.groups_turning c.loop-i.i c.loop-i-test.true
+slice_bounds-convert_group-end c = row_within c.requires.groups_turning c.loop-turn.turn-index c.loop-turn-test.true
 
 pub overflow_cast-made : goal.overflow_cast-made
-overflow_cast-made c = omega (arith, number_small c.loop-i.invariant.0 c.requires.groups_turning)
+overflow_cast-made c = omega (arith, number_small c.loop-turn.invariant.0 c.requires.groups_turning)
 
 pub overflow_add-number : goal.overflow_add-number
-overflow_add-number c = omega (arith, number_small c.loop-i.invariant.0 c.requires.groups_turning)
+overflow_add-number c = omega (arith, number_small c.loop-turn.invariant.0 c.requires.groups_turning)
 
 pub overflow_add-at : goal.overflow_add-at
 overflow_add-at c =
-    let l = c.loop-i in
-    omega (arith, record_in l.invariant.0 c.requires.groups_turning, l.invariant.1.group_of, c.well_formed.1.1.1.1.1.1.1.1.1.1.1.1.1.1.1.1.1.1.1.1.0)
+    let l = c.loop-turn in
+    omega (arith, record_in l.invariant.0 c.requires.groups_turning, l.invariant.1.lengths.group_of, c.room-room.ensures.count, c.room-room.ensures.small)
 
-pub slice_bounds-closed-end-in-loop-i : goal.slice_bounds-closed-end-in-loop-i
-slice_bounds-closed-end-in-loop-i c =
+pub slice_bounds-closed-end-in-loop-turn : goal.slice_bounds-closed-end-in-loop-turn
+slice_bounds-closed-end-in-loop-turn c =
     omega (
       arith,
       given_few c.requires.groups_turning,
-      c.loop-i.invariant.7,
+      c.loop-turn.invariant.7,
     )
 
-pub slice_bounds-convert_group-end-in-loop-i-2 : goal.slice_bounds-convert_group-end-in-loop-i-2
-slice_bounds-convert_group-end-in-loop-i-2 c =
-    let l = c.loop-i in
+pub slice_bounds-convert_group-end-in-loop-turn-2 : goal.slice_bounds-convert_group-end-in-loop-turn-2
+slice_bounds-convert_group-end-in-loop-turn-2 c =
+    let l = c.loop-turn in
     sym (length-take-le _ l.closed (omega (arith, given_few c.requires.groups_turning, l.invariant.7)))
 
 pub slice_bounds-marks-end : goal.slice_bounds-marks-end
 slice_bounds-marks-end c =
-    omega (arith, given_few c.requires.groups_turning, c.loop-i.invariant.3)
+    omega (arith, given_few c.requires.groups_turning, c.loop-turn.invariant.3)
 
-pub slice_bounds-convert_group-end-in-loop-i-3 : goal.slice_bounds-convert_group-end-in-loop-i-3
-slice_bounds-convert_group-end-in-loop-i-3 c =
-    let l = c.loop-i in
+pub slice_bounds-convert_group-end-in-loop-turn-3 : goal.slice_bounds-convert_group-end-in-loop-turn-3
+slice_bounds-convert_group-end-in-loop-turn-3 c =
+    let l = c.loop-turn in
     sym (length-take-le _ l.marks (omega (arith, given_few c.requires.groups_turning, l.invariant.3)))
-
-pub slice_bounds-convert_group-end-in-loop-i-4 : goal.slice_bounds-convert_group-end-in-loop-i-4
-slice_bounds-convert_group-end-in-loop-i-4 c = sym (unfollowed_bytes c.loop-i.invariant.6)
-
-pub slice_bounds-convert_group-end-in-loop-i-5 : goal.slice_bounds-convert_group-end-in-loop-i-5
-slice_bounds-convert_group-end-in-loop-i-5 c = sym c.loop-i.invariant.4
-
-pub slice_bounds-convert_group-end-in-loop-i-6 : goal.slice_bounds-convert_group-end-in-loop-i-6
-slice_bounds-convert_group-end-in-loop-i-6 c = sym c.loop-i.invariant.5
 
 pub convert_group-made-requires : goal.convert_group-made-requires
 convert_group-made-requires c =
     let p = c.requires.groups_turning in
-    let l = c.loop-i in
+    let l = c.loop-turn in
     let placed = c.store_places in record {
-      group_turning = next_turning l.invariant.0 p _ c.loop-i-test.true;
+      group_turning = next_turning l.invariant.0 p _ c.loop-turn-test.true;
       names_room = (
         record {
           few = given_few p;
@@ -166,37 +132,22 @@ convert_group-made-requires c =
 
 pub overflow_add-made : goal.overflow_add-made
 overflow_add-made c =
-    let l = c.loop-i in
-    let next = one_turned l.invariant.0 _ c.loop-i-test.true c.convert_group-made.ensures.group_turned in
-    let kept = c.convert_group-made.auto.group_of in
-    omega (arith, record_in next c.requires.groups_turning, l.invariant.1.group_of, kept, c.well_formed.1.1.1.1.1.1.1.1.1.1.1.1.1.1.1.1.1.1.1.1.0)
+    let l = c.loop-turn in
+    let next = one_turned l.invariant.0 _ c.loop-turn-test.true c.convert_group-made.ensures.group_turned in
+    let kept = c.convert_group-made.ensures.same.lengths.group_of in
+    omega (arith, record_in next c.requires.groups_turning, l.invariant.1.lengths.group_of, kept, c.room-room.ensures.count, c.room-room.ensures.small)
 
-pub overflow_add-i : goal.overflow_add-i
-overflow_add-i c =
-    omega (arith, c.loop-i-test.true, c.well_formed.1.0)
-
-pub loop-i-smaller : goal.loop-i-smaller
-loop-i-smaller c =
-    omega (arith, c.loop-i-test.true)
-
-pub loop-i-preserved : goal.loop-i-preserved
-loop-i-preserved c =
-    let l = c.loop-i in
+pub loop-turn-preserved : goal.loop-turn-preserved
+loop-turn-preserved c =
+    let l = c.loop-turn in
     let r = c.convert_group-made in
     let same = l.invariant.1 in
     let marks = r.new.marks in
     let front = r.new.closed in
     let n = c.args.n in
     let fits = length-take-le n l.closed (omega (arith, given_few c.requires.groups_turning, l.invariant.7)) in (
-      one_turned l.invariant.0 _ c.loop-i-test.true r.ensures.group_turned,
-      record {
-        chunk_of = r.auto.chunk_of ∙ same.chunk_of;
-        group_of = r.auto.group_of ∙ same.group_of;
-        name_of = r.auto.name_of ∙ same.name_of;
-        size_of = r.auto.size_of ∙ same.size_of;
-        bits_of = r.auto.bits_of ∙ same.bits_of;
-        mark_of = r.auto.mark_of ∙ same.mark_of;
-      },
+      one_turned l.invariant.0 _ c.loop-turn-test.true r.ensures.group_turned,
+      still_same same r.ensures.same,
       r.auto.scratch ∙ l.invariant.2,
       length_front l.marks marks n r.auto.marks ∙ l.invariant.3,
       r.auto.set ∙ l.invariant.4,
@@ -206,27 +157,6 @@ loop-i-preserved c =
       closed_as (take_at front (drop n l.closed) n (r.auto.closed ∙ fits)) r.ensures.marks_len_unchanged.5,
     )
 
-pub shape_of-scratch : goal.shape_of-scratch
-shape_of-scratch c = c.loop-i.invariant.2
-
-pub shape_of-chunk_of : goal.shape_of-chunk_of
-shape_of-chunk_of c = c.loop-i.invariant.1.chunk_of
-
-pub shape_of-group_of : goal.shape_of-group_of
-shape_of-group_of c = c.loop-i.invariant.1.group_of
-
-pub shape_of-name_of : goal.shape_of-name_of
-shape_of-name_of c = c.loop-i.invariant.1.name_of
-
-pub shape_of-size_of : goal.shape_of-size_of
-shape_of-size_of c = c.loop-i.invariant.1.size_of
-
-pub shape_of-bits_of : goal.shape_of-bits_of
-shape_of-bits_of c = c.loop-i.invariant.1.bits_of
-
-pub shape_of-mark_of : goal.shape_of-mark_of
-shape_of-mark_of c = c.loop-i.invariant.1.mark_of
-
 pub returns : goal.returns
 returns c =
-    let l = c.loop-i in record { groups_turned = all_turned l.invariant.0 c.loop-i-test.false; scratch_len_unchanged = l.invariant.2 }
+    let l = c.loop-turn in record { groups_turned = all_turned l.invariant.0 c.loop-turn-test.false; scratch_len_unchanged = l.invariant.2; same = l.invariant.1 }

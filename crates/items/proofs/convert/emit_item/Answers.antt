@@ -4,7 +4,7 @@ use mathlib.Core.Bool.{Bool}
 use mathlib.Core.List.{List}
 use mathlib.Core.Path.{◌≡◌, sym, ap, ◌∙◌}
 use lib.Ieee.{Float}
-use Rattle.limit.specs.declared.Limit.TheVariants.{Given}
+use Rattle.std.specs.Prelude.{Some}
 use Rattle.emitting.specs.declared.emit.Head.{Head}
 use Rattle.items.specs.declared.convert.Limits.{Limits}
 use Rattle.items.specs.Turn.{Tables, in_pieces, emitted_over, emitted_within}
@@ -22,36 +22,36 @@ emit_over_maximum-requires c = c.requires
 pub emit_over_maximum-requires-2 : goal.emit_over_maximum-requires-2
 emit_over_maximum-requires-2 c = c.requires
 
-pub returns-in_default : goal.returns-in_default
-returns-in_default c =
+pub returns-in_default-clause-emitted : goal.returns-in_default-clause-emitted
+returns-in_default-clause-emitted c =
     let a = c.args in
-    let t : Tables = record { bytes = a.bytes.now; offsets = a.offsets.now; sizes = a.sizes.now; rank = a.rank.now } in
+    let t : Tables = record { bytes = a.ids.now.bytes.now; offsets = a.ids.now.offsets.now; sizes = a.sizes.now; rank = a.rank.now } in
     whole_converted t a.members.now c.requires.totalled.whole
-    (emitted_by_lem t a.members.now c.requires.totalled.whole a.limits.maximum a.head a.limits.minimum (sym c.over_limit-over.ensures ∙ c.in_default.is))
-    c.emit_chunk.ensures
+    (emitted_by_lem t a.members.now c.requires.totalled.whole a.limits.maximum a.head a.limits.minimum (sym c.over_limit.ensures ∙ c.in_default.is))
+    c.emit_chunk.ensures.emitted
 
 -- the pieces of an item above its maximum, under its head made anew
 made_anew : (t : Tables) (limits : Limits) (head : Head) (members : List ℕ) (maximum : Float) {aware : Bool}
-    → emitted_within limits.maximum t head limits.minimum members ≡ emitted_over (Given maximum) t head limits.minimum members → head.entries_aware ≡ aware
+    → emitted_within limits.maximum t head limits.minimum members ≡ emitted_over (Some maximum) t head limits.minimum members → head.entries_aware ≡ aware
     → emitted_within limits.maximum t head limits.minimum members ≡ in_pieces t (anew_head head aware) limits.minimum maximum members
 made_anew t limits head members maximum e h = e ∙ sym (ap (λ (x : Head). in_pieces t x limits.minimum maximum members) (same_head head h))
 
-pub returns-then-head : goal.returns-then-head
-returns-then-head c =
+pub returns-then-head-clause-emitted : goal.returns-then-head-clause-emitted
+returns-then-head-clause-emitted c =
     let a = c.args in
-    let t : Tables = record { bytes = a.bytes.now; offsets = a.offsets.now; sizes = a.sizes.now; rank = a.rank.now } in
+    let t : Tables = record { bytes = a.ids.now.bytes.now; offsets = a.ids.now.offsets.now; sizes = a.sizes.now; rank = a.rank.now } in
     same_converted
-    (made_anew t a.limits a.head a.members.now c.in-Given.maximum
-    (emitted_by_lem t a.members.now c.requires.totalled.whole a.limits.maximum a.head a.limits.minimum (sym c.over_limit-over.ensures ∙ c.in-Given.is))
+    (made_anew t a.limits a.head a.members.now c.in-Some.maximum
+    (emitted_by_lem t a.members.now c.requires.totalled.whole a.limits.maximum a.head a.limits.minimum (sym c.over_limit.ensures ∙ c.in-Some.is))
     c.if-head.true)
-    c.emit_over_maximum.ensures
+    c.emit_over_maximum.ensures.emitted
 
-pub returns : goal.returns
-returns c =
+pub returns-clause-emitted : goal.returns-clause-emitted
+returns-clause-emitted c =
     let a = c.args in
-    let t : Tables = record { bytes = a.bytes.now; offsets = a.offsets.now; sizes = a.sizes.now; rank = a.rank.now } in
+    let t : Tables = record { bytes = a.ids.now.bytes.now; offsets = a.ids.now.offsets.now; sizes = a.sizes.now; rank = a.rank.now } in
     same_converted
-    (made_anew t a.limits a.head a.members.now c.in-Given.maximum
-    (emitted_by_lem t a.members.now c.requires.totalled.whole a.limits.maximum a.head a.limits.minimum (sym c.over_limit-over.ensures ∙ c.in-Given.is))
+    (made_anew t a.limits a.head a.members.now c.in-Some.maximum
+    (emitted_by_lem t a.members.now c.requires.totalled.whole a.limits.maximum a.head a.limits.minimum (sym c.over_limit.ensures ∙ c.in-Some.is))
     c.if-head.false)
-    c.emit_over_maximum-2.ensures
+    c.emit_over_maximum-2.ensures.emitted

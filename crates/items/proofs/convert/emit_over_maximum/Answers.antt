@@ -7,7 +7,7 @@ pub emit_oversized-requires : goal.emit_oversized-requires
 emit_oversized-requires c =
     order_ready c.requires.item_ready c.requires.totalled.some c.in_id_order.ensures c.requires.totalled.whole
 
-pub returns : goal.returns
-returns c =
+pub returns-clause-emitted : goal.returns-clause-emitted
+returns-clause-emitted c =
     let a = c.args in
-    same_converted (order_chunks c.requires.item_ready c.requires.totalled.some c.in_id_order.ensures a.head a.minimum a.maximum) c.emit_oversized.ensures
+    same_converted (order_chunks c.requires.item_ready c.requires.totalled.some c.in_id_order.ensures a.head a.minimum a.maximum) c.emit_oversized.ensures.emitted

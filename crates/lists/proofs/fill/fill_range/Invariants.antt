@@ -1,5 +1,4 @@
 -- `lists::fill::fill_range` meets its contract: one number more a turn.
-use Prim.Native.Nat.{◌-◌}
 use lib.ListN.{length}
 use Rattle.lists.specs.Range.{range}
 use Rattle.lists.proofs.Front.{Copied}
@@ -7,6 +6,3 @@ use Rattle.lists.proofs.fill.fill_range.Given as goal
 
 abbrev pub invariant-loop-i : goal.invariant-loop-i
 invariant-loop-i l = Copied (range 0 (length l.initial.area)) l.initial.area l.area l.i
-
-abbrev pub decreases-loop-i : goal.decreases-loop-i
-decreases-loop-i l = length l.initial.area - l.i

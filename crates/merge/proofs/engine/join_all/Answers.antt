@@ -1,5 +1,5 @@
 -- The invariant: from the present state the turns left give what all turns give from the start, the list has as many numbers as turns are left, the
--- first words stand beside it, and the heads stand for their blocks. The measure is the turns left.
+-- first words stand beside it, and the heads stand for their blocks.
 use Prim.Native.Nat.{suc, ◌-◌, ◌≤◌}
 use mathlib.Core.Path.{◌≡◌, refl, sym, ap, ◌∙◌, subst}
 use native.Mathlib.Omega.{arith}

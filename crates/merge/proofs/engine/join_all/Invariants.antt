@@ -1,5 +1,5 @@
 -- The invariant: from the present state the turns left give what all turns give from the start, the list has as many numbers as turns are left, the
--- first words stand beside it, and the heads stand for their blocks. The measure is the turns left.
+-- first words stand beside it, and the heads stand for their blocks.
 use Prim.Native.Nat.{◌≤◌}
 use mathlib.Core.Path.{◌≡◌}
 use lib.ListN.{length, take}
@@ -23,6 +23,3 @@ invariant-loop-left l =
     × (length l.there ≡ length l.initial.there)
     × (length l.words ≡ length l.there)
     × (length l.heads ≡ length l.initial.heads)
-
-abbrev pub decreases-loop-left : goal.decreases-loop-left
-decreases-loop-left l = l.left

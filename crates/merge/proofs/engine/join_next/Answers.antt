@@ -3,7 +3,6 @@
 use Prim.Native.Nat.{◌-◌}
 use mathlib.Core.Path.{◌≡◌, sym, ap, ◌∙◌}
 use native.Mathlib.Omega.{arith}
-use borrow.Author.Tests.{not-true, not-false}
 use lib.ListN.{length, take}
 use lib.Seq.{length-take-le}
 use Rattle.joins.specs.Held.{held}
@@ -14,8 +13,8 @@ use Rattle.merge.proofs.Turning.{target_row, join_fits, rewrite_fits, refresh_fi
 use Rattle.merge.proofs.engine.join_next.Goals as goal
 
 -- ---- the answers
-pub find_seeker-seeker-requires : goal.find_seeker-seeker-requires
-find_seeker-seeker-requires c =
+pub find_seeker-requires : goal.find_seeker-requires
+find_seeker-requires c =
     let a = c.args in
     reads_heads a.threshold a.numbers.now a.sizes.now a.bits.now a.there.now a.heads.now c.requires.0 c.requires.1 c.requires.2
 
@@ -35,141 +34,141 @@ pub shape_of-words : goal.shape_of-words
 shape_of-words c =
     c.rewrite_word.auto.words ∙ c.remove.auto.words
 
-pub returns-then-not-seeker : goal.returns-then-not-seeker
-returns-then-not-seeker c =
+pub returns-in_default : goal.returns-in_default
+returns-in_default c =
     let a = c.args in
     turn_without_seeker a.threshold a.numbers.now a.sizes.now a.bits.now a.there.now a.heads.now c.requires.0 c.requires.1 c.requires.2
-    c.find_seeker-seeker.result c.find_seeker-seeker.ensures (not-true _ c.if-not-seeker.true) a.words.now
+    c.find_seeker.result c.find_seeker.ensures c.in_default.is a.words.now
 
 pub subgroup_at-joining-requires : goal.subgroup_at-joining-requires
 subgroup_at-joining-requires c =
     let a = c.args in
     let row = seeker_row a.threshold a.numbers.now a.sizes.now a.bits.now a.there.now a.heads.now c.requires.0 c.requires.1 c.requires.2
-    c.find_seeker-seeker.result c.find_seeker-seeker.ensures (not-false _ c.if-not-seeker.false) in record { in_row = row.1; i_bound = row.2 }
+    c.find_seeker.result c.find_seeker.ensures c.in-Some.seeker c.in-Some.is in record { in_row = row.1; i_bound = row.2 }
 
 pub overflow_cast-from : goal.overflow_cast-from
 overflow_cast-from c =
     let a = c.args in
     let row = seeker_row a.threshold a.numbers.now a.sizes.now a.bits.now a.there.now a.heads.now c.requires.0 c.requires.1 c.requires.2
-    c.find_seeker-seeker.result c.find_seeker-seeker.ensures (not-false _ c.if-not-seeker.false) in
+    c.find_seeker.result c.find_seeker.ensures c.in-Some.seeker c.in-Some.is in
     omega (arith, row.0, c.requires.0.tables.count)
 
 pub remove-requires : goal.remove-requires
 remove-requires c =
     let a = c.args in
     let on_List = seeker_listed a.threshold a.numbers.now a.sizes.now a.bits.now a.there.now a.heads.now c.requires.0 c.requires.1 c.requires.2
-    c.find_seeker-seeker.result c.find_seeker-seeker.ensures (not-false _ c.if-not-seeker.false) in
+    c.find_seeker.result c.find_seeker.ensures c.in-Some.seeker c.in-Some.is in
     (on_List.0, on_List.1, c.requires.4)
 
-pub find_target-target-requires : goal.find_target-target-requires
-find_target-target-requires c =
+pub find_target-requires : goal.find_target-requires
+find_target-requires c =
     let a = c.args in
-    let gone : (take (length c.remove.new.list - 1) c.remove.new.list ≡ but_one c.find_seeker-seeker.result.candidate.number c.args.there.now)
+    let gone : (take (length c.remove.new.list - 1) c.remove.new.list ≡ but_one c.in-Some.seeker.number c.args.there.now)
     × FirstWords (take (length c.remove.new.list - 1) c.remove.new.list) c.remove.new.words c.args.bits.now =
     seeker_removed a.threshold a.numbers.now a.sizes.now a.bits.now a.there.now a.heads.now c.requires.0 c.requires.1 c.requires.2
-    c.find_seeker-seeker.result c.find_seeker-seeker.ensures (not-false _ c.if-not-seeker.false)
+    c.find_seeker.result c.find_seeker.ensures c.in-Some.seeker c.in-Some.is
     a.words.now c.remove.new.list c.remove.new.words c.requires.3 c.requires.4 c.remove.auto.list c.remove.auto.words c.remove.ensures in
     reads_left a.threshold a.numbers.now a.sizes.now a.bits.now a.there.now a.heads.now c.requires.0 c.requires.1 c.requires.2
-    c.find_seeker-seeker.result c.find_seeker-seeker.ensures (not-false _ c.if-not-seeker.false)
+    c.find_seeker.result c.find_seeker.ensures c.in-Some.seeker c.in-Some.is
     (held c.subgroup_at-joining.result) c.subgroup_at-joining.ensures _ gone.0 c.remove.new.words gone.1
 
-pub returns-then-not-target : goal.returns-then-not-target
-returns-then-not-target c =
+pub returns-in_default-find_target : goal.returns-in_default-find_target
+returns-in_default-find_target c =
     let a = c.args in
-    let gone : (take (length c.remove.new.list - 1) c.remove.new.list ≡ but_one c.find_seeker-seeker.result.candidate.number c.args.there.now)
+    let gone : (take (length c.remove.new.list - 1) c.remove.new.list ≡ but_one c.in-Some.seeker.number c.args.there.now)
     × FirstWords (take (length c.remove.new.list - 1) c.remove.new.list) c.remove.new.words c.args.bits.now =
     seeker_removed a.threshold a.numbers.now a.sizes.now a.bits.now a.there.now a.heads.now c.requires.0 c.requires.1 c.requires.2
-    c.find_seeker-seeker.result c.find_seeker-seeker.ensures (not-false _ c.if-not-seeker.false)
+    c.find_seeker.result c.find_seeker.ensures c.in-Some.seeker c.in-Some.is
     a.words.now c.remove.new.list c.remove.new.words c.requires.3 c.requires.4 c.remove.auto.list c.remove.auto.words c.remove.ensures in
     turn_without_target a.threshold a.numbers.now a.sizes.now a.bits.now a.there.now a.heads.now c.requires.0 c.requires.1 c.requires.2
-    c.find_seeker-seeker.result c.find_seeker-seeker.ensures (not-false _ c.if-not-seeker.false)
+    c.find_seeker.result c.find_seeker.ensures c.in-Some.seeker c.in-Some.is
     (held c.subgroup_at-joining.result) c.subgroup_at-joining.ensures _ gone.0
-    c.find_target-target.result c.find_target-target.ensures (not-true _ c.if-not-target.true) c.remove.new.list c.remove.new.words
+    c.find_target.result c.find_target.ensures c.in_default-find_target.is c.remove.new.list c.remove.new.words
 
 pub subgroup_at-joined-requires : goal.subgroup_at-joined-requires
 subgroup_at-joined-requires c =
     let a = c.args in
-    let gone : (take (length c.remove.new.list - 1) c.remove.new.list ≡ but_one c.find_seeker-seeker.result.candidate.number c.args.there.now)
+    let gone : (take (length c.remove.new.list - 1) c.remove.new.list ≡ but_one c.in-Some.seeker.number c.args.there.now)
     × FirstWords (take (length c.remove.new.list - 1) c.remove.new.list) c.remove.new.words c.args.bits.now =
     seeker_removed a.threshold a.numbers.now a.sizes.now a.bits.now a.there.now a.heads.now c.requires.0 c.requires.1 c.requires.2
-    c.find_seeker-seeker.result c.find_seeker-seeker.ensures (not-false _ c.if-not-seeker.false)
+    c.find_seeker.result c.find_seeker.ensures c.in-Some.seeker c.in-Some.is
     a.words.now c.remove.new.list c.remove.new.words c.requires.3 c.requires.4 c.remove.auto.list c.remove.auto.words c.remove.ensures in
     let row = target_row a.threshold a.numbers.now a.sizes.now a.bits.now a.there.now a.heads.now c.requires.0 c.requires.1 c.requires.2
-    c.find_seeker-seeker.result c.find_seeker-seeker.ensures (not-false _ c.if-not-seeker.false)
+    c.find_seeker.result c.find_seeker.ensures c.in-Some.seeker c.in-Some.is
     (held c.subgroup_at-joining.result) c.subgroup_at-joining.ensures _ gone.0
-    c.find_target-target.result c.find_target-target.ensures (not-false _ c.if-not-target.false) in
+    c.find_target.result c.find_target.ensures c.in-Some-find_target.target c.in-Some-find_target.is in
     record { in_row = row.0; i_bound = row.1 }
 
 pub join-requires : goal.join-requires
 join-requires c =
     let a = c.args in
-    let gone : (take (length c.remove.new.list - 1) c.remove.new.list ≡ but_one c.find_seeker-seeker.result.candidate.number c.args.there.now)
+    let gone : (take (length c.remove.new.list - 1) c.remove.new.list ≡ but_one c.in-Some.seeker.number c.args.there.now)
     × FirstWords (take (length c.remove.new.list - 1) c.remove.new.list) c.remove.new.words c.args.bits.now =
     seeker_removed a.threshold a.numbers.now a.sizes.now a.bits.now a.there.now a.heads.now c.requires.0 c.requires.1 c.requires.2
-    c.find_seeker-seeker.result c.find_seeker-seeker.ensures (not-false _ c.if-not-seeker.false)
+    c.find_seeker.result c.find_seeker.ensures c.in-Some.seeker c.in-Some.is
     a.words.now c.remove.new.list c.remove.new.words c.requires.3 c.requires.4 c.remove.auto.list c.remove.auto.words c.remove.ensures in
     join_fits a.threshold a.numbers.now a.sizes.now a.bits.now a.there.now a.heads.now c.requires.0 c.requires.1 c.requires.2
-    c.find_seeker-seeker.result c.find_seeker-seeker.ensures (not-false _ c.if-not-seeker.false)
+    c.find_seeker.result c.find_seeker.ensures c.in-Some.seeker c.in-Some.is
     (held c.subgroup_at-joining.result) c.subgroup_at-joining.ensures _ gone.0
-    c.find_target-target.result c.find_target-target.ensures (not-false _ c.if-not-target.false) (held c.subgroup_at-joined.result) c.subgroup_at-joined.ensures
+    c.find_target.result c.find_target.ensures c.in-Some-find_target.target c.in-Some-find_target.is (held c.subgroup_at-joined.result) c.subgroup_at-joined.ensures
 
 pub rewrite_word-requires : goal.rewrite_word-requires
 rewrite_word-requires c =
     let a = c.args in
-    let gone : (take (length c.remove.new.list - 1) c.remove.new.list ≡ but_one c.find_seeker-seeker.result.candidate.number c.args.there.now)
+    let gone : (take (length c.remove.new.list - 1) c.remove.new.list ≡ but_one c.in-Some.seeker.number c.args.there.now)
     × FirstWords (take (length c.remove.new.list - 1) c.remove.new.list) c.remove.new.words c.args.bits.now =
     seeker_removed a.threshold a.numbers.now a.sizes.now a.bits.now a.there.now a.heads.now c.requires.0 c.requires.1 c.requires.2
-    c.find_seeker-seeker.result c.find_seeker-seeker.ensures (not-false _ c.if-not-seeker.false)
+    c.find_seeker.result c.find_seeker.ensures c.in-Some.seeker c.in-Some.is
     a.words.now c.remove.new.list c.remove.new.words c.requires.3 c.requires.4 c.remove.auto.list c.remove.auto.words c.remove.ensures in
     let fits = rewrite_fits a.threshold a.numbers.now a.sizes.now a.bits.now a.there.now a.heads.now c.requires.0 c.requires.1 c.requires.2
-    c.find_seeker-seeker.result c.find_seeker-seeker.ensures (not-false _ c.if-not-seeker.false)
+    c.find_seeker.result c.find_seeker.ensures c.in-Some.seeker c.in-Some.is
     (held c.subgroup_at-joining.result) c.subgroup_at-joining.ensures _ gone.0
-    c.find_target-target.result c.find_target-target.ensures (not-false _ c.if-not-target.false) (held c.subgroup_at-joined.result) c.subgroup_at-joined.ensures
+    c.find_target.result c.find_target.ensures c.in-Some-find_target.target c.in-Some-find_target.is (held c.subgroup_at-joined.result) c.subgroup_at-joined.ensures
     c.join.new.numbers c.join.new.sizes c.join.new.bits c.join.ensures in
     (fits.0, fits.1, gone.1.room, fits.2, fits.3)
 
 pub refresh-requires : goal.refresh-requires
 refresh-requires c =
     let a = c.args in
-    let gone : (take (length c.remove.new.list - 1) c.remove.new.list ≡ but_one c.find_seeker-seeker.result.candidate.number c.args.there.now)
+    let gone : (take (length c.remove.new.list - 1) c.remove.new.list ≡ but_one c.in-Some.seeker.number c.args.there.now)
     × FirstWords (take (length c.remove.new.list - 1) c.remove.new.list) c.remove.new.words c.args.bits.now =
     seeker_removed a.threshold a.numbers.now a.sizes.now a.bits.now a.there.now a.heads.now c.requires.0 c.requires.1 c.requires.2
-    c.find_seeker-seeker.result c.find_seeker-seeker.ensures (not-false _ c.if-not-seeker.false)
+    c.find_seeker.result c.find_seeker.ensures c.in-Some.seeker c.in-Some.is
     a.words.now c.remove.new.list c.remove.new.words c.requires.3 c.requires.4 c.remove.auto.list c.remove.auto.words c.remove.ensures in
     let fits = refresh_fits a.threshold a.numbers.now a.sizes.now a.bits.now a.there.now a.heads.now c.requires.0 c.requires.1 c.requires.2
-    c.find_seeker-seeker.result c.find_seeker-seeker.ensures (not-false _ c.if-not-seeker.false)
+    c.find_seeker.result c.find_seeker.ensures c.in-Some.seeker c.in-Some.is
     (held c.subgroup_at-joining.result) c.subgroup_at-joining.ensures _ gone.0
-    c.find_target-target.result c.find_target-target.ensures (not-false _ c.if-not-target.false) (held c.subgroup_at-joined.result) c.subgroup_at-joined.ensures
+    c.find_target.result c.find_target.ensures c.in-Some-find_target.target c.in-Some-find_target.is (held c.subgroup_at-joined.result) c.subgroup_at-joined.ensures
     c.join.new.numbers c.join.new.sizes c.join.new.bits c.join.ensures in
     (fits.0, fits.1, fits.2, fits.4)
 
 pub refresh-requires-2 : goal.refresh-requires-2
 refresh-requires-2 c =
     let a = c.args in
-    let gone : (take (length c.remove.new.list - 1) c.remove.new.list ≡ but_one c.find_seeker-seeker.result.candidate.number c.args.there.now)
+    let gone : (take (length c.remove.new.list - 1) c.remove.new.list ≡ but_one c.in-Some.seeker.number c.args.there.now)
     × FirstWords (take (length c.remove.new.list - 1) c.remove.new.list) c.remove.new.words c.args.bits.now =
     seeker_removed a.threshold a.numbers.now a.sizes.now a.bits.now a.there.now a.heads.now c.requires.0 c.requires.1 c.requires.2
-    c.find_seeker-seeker.result c.find_seeker-seeker.ensures (not-false _ c.if-not-seeker.false)
+    c.find_seeker.result c.find_seeker.ensures c.in-Some.seeker c.in-Some.is
     a.words.now c.remove.new.list c.remove.new.words c.requires.3 c.requires.4 c.remove.auto.list c.remove.auto.words c.remove.ensures in
     let fits = refresh_fits a.threshold a.numbers.now a.sizes.now a.bits.now a.there.now a.heads.now c.requires.0 c.requires.1 c.requires.2
-    c.find_seeker-seeker.result c.find_seeker-seeker.ensures (not-false _ c.if-not-seeker.false)
+    c.find_seeker.result c.find_seeker.ensures c.in-Some.seeker c.in-Some.is
     (held c.subgroup_at-joining.result) c.subgroup_at-joining.ensures _ gone.0
-    c.find_target-target.result c.find_target-target.ensures (not-false _ c.if-not-target.false) (held c.subgroup_at-joined.result) c.subgroup_at-joined.ensures
+    c.find_target.result c.find_target.ensures c.in-Some-find_target.target c.in-Some-find_target.is (held c.subgroup_at-joined.result) c.subgroup_at-joined.ensures
     c.join.new.numbers c.join.new.sizes c.join.new.bits c.join.ensures in
     (fits.0, fits.1, fits.3, omega (arith, fits.4, c.refresh.auto.heads))
 
 pub returns : goal.returns
 returns c =
     let a = c.args in
-    let gone : (take (length c.remove.new.list - 1) c.remove.new.list ≡ but_one c.find_seeker-seeker.result.candidate.number c.args.there.now)
+    let gone : (take (length c.remove.new.list - 1) c.remove.new.list ≡ but_one c.in-Some.seeker.number c.args.there.now)
     × FirstWords (take (length c.remove.new.list - 1) c.remove.new.list) c.remove.new.words c.args.bits.now =
     seeker_removed a.threshold a.numbers.now a.sizes.now a.bits.now a.there.now a.heads.now c.requires.0 c.requires.1 c.requires.2
-    c.find_seeker-seeker.result c.find_seeker-seeker.ensures (not-false _ c.if-not-seeker.false)
+    c.find_seeker.result c.find_seeker.ensures c.in-Some.seeker c.in-Some.is
     a.words.now c.remove.new.list c.remove.new.words c.requires.3 c.requires.4 c.remove.auto.list c.remove.auto.words c.remove.ensures in
     turn_with_join a.threshold a.numbers.now a.sizes.now a.bits.now a.there.now a.heads.now c.requires.0 c.requires.1 c.requires.2
-    c.find_seeker-seeker.result c.find_seeker-seeker.ensures (not-false _ c.if-not-seeker.false)
+    c.find_seeker.result c.find_seeker.ensures c.in-Some.seeker c.in-Some.is
     (held c.subgroup_at-joining.result) c.subgroup_at-joining.ensures _ gone.0
-    c.find_target-target.result c.find_target-target.ensures (not-false _ c.if-not-target.false) (held c.subgroup_at-joined.result) c.subgroup_at-joined.ensures
+    c.find_target.result c.find_target.ensures c.in-Some-find_target.target c.in-Some-find_target.is (held c.subgroup_at-joined.result) c.subgroup_at-joined.ensures
     c.join.new.numbers c.join.new.sizes c.join.new.bits c.remove.new.list c.join.ensures
     (sym (ap (λ n. take (n - 1) c.remove.new.list) c.remove.auto.list))
     c.remove.new.words c.rewrite_word.new.words gone.1 c.rewrite_word.ensures

@@ -1,10 +1,6 @@
--- `namecases::tables::read` is safe and ends.
--- The bytes that were read fit the area, which the invariant says. The measure is the number of names that are left.
-use Rattle.std.proofs.Common.{◌-◌, ◌≤◌}
+-- The bytes that were read fit the area, which the invariant says.
+use Rattle.std.proofs.Common.{◌≤◌}
 use Rattle.namecases.proofs.tables.read.Given as goal
 
-abbrev pub invariant-loop-i : goal.invariant-loop-i
-invariant-loop-i l = l.end ≤ 16384
-
-abbrev pub decreases-loop-i : goal.decreases-loop-i
-decreases-loop-i l = l.n - l.i
+abbrev pub invariant-loop-offset : goal.invariant-loop-offset
+invariant-loop-offset l = l.end ≤ 16384

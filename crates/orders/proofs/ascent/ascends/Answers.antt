@@ -1,31 +1,23 @@
--- `orders::ascent::ascends` meets its contract. The loop's invariant: no number before `from` is followed by a lower one.
-use Prim.Native.Nat.{◌-◌}
-use mathlib.Core.Bool.{not}
-use mathlib.Core.Path.{sym, ap, ◌∙◌}
-use native.Mathlib.Omega.{arith}
-use lib.ListN.{length}
-use Rattle.orders.proofs.BlockOrder.{rises_none, rises_next, few_ascend, fall_descends, rest_decides}
+-- `orders::ascent::ascends` meets its contract. The loop's invariant: the list falls where what is left of it does.
+use mathlib.Core.Bool.{true, not}
+use mathlib.Core.Path.{◌≡◌, sym, ap, ◌∙◌}
+use borrow.Author.Rules.{part_to_end}
+use Rattle.std.specs.Ordering.{partial_lt}
+use Rattle.orders.specs.Ascending.{falls_by}
+use Rattle.orders.proofs.BlockOrder.{block_and_rest}
 use Rattle.orders.proofs.ascent.ascends.Goals as goal
 
-pub returns-then-a-lt2 : goal.returns-then-a-lt2
-returns-then-a-lt2 c = few_ascend _ (omega arith)
+pub returns-then-falls : goal.returns-then-falls
+returns-then-falls g c =
+    let lower = partial_lt g.T.PartialOrd.partial_cmp in
+    let e = block_and_rest lower 16 c.loop-rest.rest.now in
+    let here = sym c.falls.ensures ∙ c.if-falls.true in
+    let whole : falls_by lower c.args.a.now ≡ true = c.loop-rest.invariant ∙ e ∙ rw here in
+    sym (ap not whole)
 
-pub loop-from-init : goal.loop-from-init
-loop-from-init c = (omega arith, rises_none _)
-
-pub returns-then-falls_among : goal.returns-then-falls_among
-returns-then-falls_among c =
-    let k = c.falls_among in
-    fall_descends _ c.loop-from.from 16 (omega arith) (sym k.ensures ∙ c.if-falls_among.true)
-
-pub loop-from-preserved : goal.loop-from-preserved
-loop-from-preserved c =
-    let k = c.falls_among in
-    let l = c.loop-from in
-    (omega arith, rises_next _ l.from 16 l.invariant.1 (sym k.ensures ∙ c.if-falls_among.false))
-
-pub returns : goal.returns
-returns c =
-    let s = c.args in
-    let l = c.loop-from in
-    ap not c.falls_among-2.ensures ∙ rest_decides s.a.now l.from (length s.a.now - 1 - l.from) (omega arith) l.invariant.1
+pub loop-rest-preserved : goal.loop-rest-preserved
+loop-rest-preserved g c =
+    let lower = partial_lt g.T.PartialOrd.partial_cmp in
+    let e = block_and_rest lower 16 c.loop-rest.rest.now in
+    let here = sym c.falls.ensures ∙ c.if-falls.false in
+    rw part_to_end (c.loop-rest.invariant ∙ e ∙ rw here)

@@ -9,17 +9,11 @@ use Rattle.oversized.proofs.neighbours.fill_similar.Goals as goal
 pub loop-i-init : goal.loop-i-init
 loop-i-init c = (omega arith, c.requires.1, λ k from h. absurd (omega arith))
 
-pub similarity_between-requires : goal.similarity_between-requires
-similarity_between-requires c =
-    let p = c.requires.0 in
-    let i = c.loop-i.i in
-    record { good = p.good; has_before = p.has_id (i - 1) (omega arith); has_after = p.has_id i (omega arith) }
-
 pub loop-i-preserved : goal.loop-i-preserved
 loop-i-preserved c =
     let l = c.loop-i in
     let a = c.args in
-    let f : ℕ → ℕ = λ k. alike a.bytes.now a.offsets.now (get_or a.order.now (k - 1) 0) (get_or a.order.now k 0) in (
+    let f : ℕ → ℕ = λ k. alike a.ids.now.bytes.now a.ids.now.offsets.now (get_or a.order.now (k - 1) 0) (get_or a.order.now k 0) in (
       omega arith,
       simp length-set l.invariant.1,
       one_filled 0 f 1 l.similar l.i c.similarity_between.result (omega arith) c.similarity_between.ensures l.invariant.2,

@@ -15,9 +15,6 @@ pub loop-i-init : goal.loop-i-init
 loop-i-init c =
     (omega arith, c.requires.1, λ k from h. absurd (omega arith), no_size (sizes_in c.args.sizes.now c.args.order.now))
 
-pub size_at-sum-requires : goal.size_at-sum-requires
-size_at-sum-requires c = record { sized = c.requires.0; i_in_bounds = omega arith }
-
 pub loop-i-preserved : goal.loop-i-preserved
 loop-i-preserved c =
     let l = c.loop-i in
@@ -29,8 +26,3 @@ loop-i-preserved c =
       one_filled nan (λ k. sum_f64 (take k all)) 0 l.sums l.i l.sum (omega arith) l.invariant.3 l.invariant.2,
       ap₂ (add binary64) l.invariant.3 c.size_at-sum.ensures ∙ size_more all l.i h,
     )
-
-pub returns : goal.returns
-returns c =
-    let v = c.loop-i.invariant in
-    record { as_many = v.1; each = λ k h. v.2 k (omega arith) (omega arith) }

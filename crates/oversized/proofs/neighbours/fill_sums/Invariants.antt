@@ -1,5 +1,5 @@
 -- `oversized::neighbours::fill_sums` meets its contract. The loop's invariant: the entries below i are filled, and the sum is that of the first i sizes.
-use Prim.Native.Nat.{◌-◌, ◌≤◌}
+use Prim.Native.Nat.{◌≤◌}
 use mathlib.Core.Path.{◌≡◌}
 use lib.Ieee.{nan}
 use lib.ListN.{length, take}
@@ -14,6 +14,3 @@ invariant-loop-i l =
     × (length l.sums ≡ length l.order)
     × Filled nan (λ k. sum_f64 (take k (sizes_in l.sizes l.order))) 0 l.sums l.i
     × (l.sum ≡ sum_f64 (take l.i (sizes_in l.sizes l.order)))
-
-abbrev pub decreases-loop-i : goal.decreases-loop-i
-decreases-loop-i l = length l.order - l.i

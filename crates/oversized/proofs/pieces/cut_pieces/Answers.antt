@@ -17,58 +17,6 @@ use Rattle.oversized.proofs.pieces.cut_pieces.Goals as goal
 part_length : {A : Type 0} (l : List A) (a b : ℕ) → a ≤ b → b ≤ length l → length (take (b - a) (drop a l)) ≡ b - a
 part_length l a b h k = length-take-le (b - a) (drop a l) (simp length-drop (omega arith))
 
-pub offset_bounds-starts-top-in-loop-top : goal.offset_bounds-starts-top-in-loop-top
-offset_bounds-starts-top-in-loop-top c =
-    let inside : c.loop-top.top < length c.args.similar.now =
-    c.loop-top-test.true in
-    omega (arith, inside, c.requires.few)
-
-pub bounds-starts-top-in-loop-top : goal.bounds-starts-top-in-loop-top
-bounds-starts-top-in-loop-top c =
-    let inside : c.loop-top.top < length c.args.similar.now =
-    c.loop-top-test.true in
-    let in_starts : length c.args.similar.now ≤ length c.loop-top.starts =
-    let m = c.requires.modules in starts_room m _ _ (c.loop-top.invariant.0 m) (inside) in
-    omega (arith, inside, in_starts)
-
-pub overflow_cast-start : goal.overflow_cast-start
-overflow_cast-start c =
-    let inside : c.loop-top.top < length c.args.similar.now =
-    c.loop-top-test.true in
-    let below : get_or c.loop-top.starts c.loop-top.top 0 < c.loop-top.end =
-    let m = c.requires.modules in area_below m _ _ (c.loop-top.invariant.0 m) (inside) in
-    let within : c.loop-top.end ≤ length c.args.similar.now =
-    let m = c.requires.modules in area_within m _ _ (c.loop-top.invariant.0 m) (inside) in
-    let short : c.loop-top.end ≤ 4096 =
-    omega (arith, within, c.requires.few) in
-    omega (arith, below, short)
-
-pub offset_bounds-piece_sizes-top-in-loop-top : goal.offset_bounds-piece_sizes-top-in-loop-top
-offset_bounds-piece_sizes-top-in-loop-top c =
-    let inside : c.loop-top.top < length c.args.similar.now =
-    c.loop-top-test.true in
-    omega (arith, inside, c.requires.few)
-
-pub bounds-piece_sizes-top-in-loop-top : goal.bounds-piece_sizes-top-in-loop-top
-bounds-piece_sizes-top-in-loop-top c =
-    let inside : c.loop-top.top < length c.args.similar.now =
-    c.loop-top-test.true in
-    let in-sizes : length c.args.similar.now ≤ length c.loop-top.piece_sizes =
-    let m = c.requires.modules in sizes_room m _ _ (c.loop-top.invariant.0 m) (inside) in
-    omega (arith, inside, in-sizes)
-
-pub offset_bounds-similar-start : goal.offset_bounds-similar-start
-offset_bounds-similar-start c =
-    let inside : c.loop-top.top < length c.args.similar.now =
-    c.loop-top-test.true in
-    let below : get_or c.loop-top.starts c.loop-top.top 0 < c.loop-top.end =
-    let m = c.requires.modules in area_below m _ _ (c.loop-top.invariant.0 m) (inside) in
-    let within : c.loop-top.end ≤ length c.args.similar.now =
-    let m = c.requires.modules in area_within m _ _ (c.loop-top.invariant.0 m) (inside) in
-    let short : c.loop-top.end ≤ 4096 =
-    omega (arith, within, c.requires.few) in
-    omega (arith, below, short)
-
 pub slice_bounds-cut_within-count : goal.slice_bounds-cut_within-count
 slice_bounds-cut_within-count c =
     let inside : c.loop-top.top < length c.args.similar.now =
@@ -92,18 +40,6 @@ slice_bounds-cut_within-end c =
     let within : c.loop-top.end ≤ length c.args.similar.now =
     let m = c.requires.modules in area_within m _ _ (c.loop-top.invariant.0 m) (inside) in
     within
-
-pub offset_bounds-sums-start : goal.offset_bounds-sums-start
-offset_bounds-sums-start c =
-    let inside : c.loop-top.top < length c.args.similar.now =
-    c.loop-top-test.true in
-    let below : get_or c.loop-top.starts c.loop-top.top 0 < c.loop-top.end =
-    let m = c.requires.modules in area_below m _ _ (c.loop-top.invariant.0 m) (inside) in
-    let within : c.loop-top.end ≤ length c.args.similar.now =
-    let m = c.requires.modules in area_within m _ _ (c.loop-top.invariant.0 m) (inside) in
-    let short : c.loop-top.end ≤ 4096 =
-    omega (arith, within, c.requires.few) in
-    omega (arith, below, short)
 
 pub slice_bounds-cut_within-count-in-loop-top : goal.slice_bounds-cut_within-count-in-loop-top
 slice_bounds-cut_within-count-in-loop-top c =
@@ -180,12 +116,6 @@ overflow_add-count c =
     let m = c.requires.modules in area_room m _ _ (c.loop-top.invariant.0 m) (inside) in
     omega (arith, room, c.requires.few)
 
-pub overflow_add-top : goal.overflow_add-top
-overflow_add-top c =
-    let inside : c.loop-top.top < length c.args.similar.now =
-    c.loop-top-test.true in
-    omega (arith, inside, c.requires.few)
-
 pub loop-top-smaller-in_default : goal.loop-top-smaller-in_default
 loop-top-smaller-in_default c =
     let inside : c.loop-top.top < length c.args.similar.now =
@@ -254,15 +184,6 @@ loop-top-preserved c =
       ap length c.push_pieces.ensures.sized ∙ simp length-set (simp length-set at v.3),
       v.4,
     )
-
-pub shape_of-starts : goal.shape_of-starts
-shape_of-starts c = c.loop-top.invariant.2 ∙ simp length-set
-
-pub shape_of-piece_sizes : goal.shape_of-piece_sizes
-shape_of-piece_sizes c = c.loop-top.invariant.3 ∙ simp length-set
-
-pub shape_of-marks : goal.shape_of-marks
-shape_of-marks c = c.loop-top.invariant.4
 
 pub returns : goal.returns
 returns c m = area_done m _ _ (c.loop-top.invariant.0 m) (omega arith)

@@ -6,8 +6,8 @@ pub returns : goal.returns
 returns c =
     let modules : Neighbours c.fill_similar.new.similar c.fill_sums.new.sums c.args.total =
     record {
-      bytes = c.args.bytes.now;
-      offsets = c.args.offsets.now;
+      bytes = c.args.ids.now.bytes.now;
+      offsets = c.args.ids.now.offsets.now;
       sizes = c.args.sizes.now;
       order = c.args.order.now;
       tables = c.requires.pending.tables;

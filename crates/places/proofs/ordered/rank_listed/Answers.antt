@@ -18,7 +18,7 @@ slice_bounds-rank_by_id-end-2 c = kept_length c.list_modules-count.ensures
 
 pub rank_by_id-requires : goal.rank_by_id-requires
 rank_by_id-requires c =
-    subst (λ (l : List ℕ). Rankable c.args.bytes.now c.args.offsets.now l c.args.rank.now)
+    subst (λ (l : List ℕ). Rankable c.args.ids.now.bytes.now c.args.ids.now.offsets.now l c.args.rank.now)
     (sym c.list_modules-count.ensures.first) (listed_rankable c.args.flags.now c.requires)
 
 pub returns : goal.returns

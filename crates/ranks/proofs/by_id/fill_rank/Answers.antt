@@ -12,11 +12,11 @@ overflow_cast-rank c = omega (arith, c.requires.few)
 pub overflow_cast-rank-in-loop-i : goal.overflow_cast-rank-in-loop-i
 overflow_cast-rank-in-loop-i c = omega (arith, c.requires.has_rank c.loop-i.i (omega arith))
 
-pub offset_bounds-rank-list : goal.offset_bounds-rank-list
-offset_bounds-rank-list c = omega (arith, c.requires.has_rank c.loop-i.i (omega arith))
+pub offset_bounds-rank-m : goal.offset_bounds-rank-m
+offset_bounds-rank-m c = omega (arith, c.requires.has_rank c.loop-i.i (omega arith))
 
-pub bounds-rank-list : goal.bounds-rank-list
-bounds-rank-list c = omega (arith, c.requires.has_rank c.loop-i.i (omega arith))
+pub bounds-rank-m : goal.bounds-rank-m
+bounds-rank-m c = omega (arith, c.requires.has_rank c.loop-i.i (omega arith))
 
 pub loop-i-preserved : goal.loop-i-preserved
 loop-i-preserved c =

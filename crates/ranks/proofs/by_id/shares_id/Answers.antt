@@ -1,8 +1,7 @@
--- `ranks::by_id::shares_id` meets its contract. The loop's invariant: no neighbours before i tie.
-use Prim.Native.Nat.{ℕ, ◌-◌}
+-- `ranks::by_id::shares_id` meets its contract. The loop's invariant: no neighbours before place i tie.
+use Prim.Native.Nat.{ℕ, suc, ◌+◌, ◌-◌}
 use mathlib.Core.Bool.{Bool, false}
 use mathlib.Core.Path.{◌≡◌, refl, sym, ap, ◌∙◌}
-use native.Mathlib.Numerals.{add-one}
 use native.Mathlib.Omega.{arith}
 use lib.ListN.{length}
 use Rattle.lists.specs.Below.{any_below}
@@ -22,21 +21,22 @@ unfolding neighbours_tie
 returns-then-tied_at c =
     let a = c.args in
     let l = c.loop-i in
-    let tied : ℕ → Bool = tied_at a.bytes.now a.offsets.now a.list.now in
-    sym (any_some tied (length a.list.now - 1) l.i (omega arith) (sym c.tied_at.ensures ∙ c.if-tied_at.true))
+    let tied : ℕ → Bool = tied_at a.ids.now.bytes.now a.ids.now.offsets.now a.list.now in
+    sym (any_some tied (length a.list.now - 1) (l.i - 1) (omega arith) (sym c.tied_at.ensures ∙ c.if-tied_at.true))
 
 pub loop-i-preserved : goal.loop-i-preserved
 unfolding any_below
 loop-i-preserved c =
     let a = c.args in
     let l = c.loop-i in
-    let e : tied_at a.bytes.now a.offsets.now a.list.now l.i ≡ false = sym c.tied_at.ensures ∙ c.if-tied_at.false in
-    (omega arith, rw (add-one l.i, e) l.invariant.1)
+    let e : tied_at a.ids.now.bytes.now a.ids.now.offsets.now a.list.now (l.i - 1) ≡ false = sym c.tied_at.ensures ∙ c.if-tied_at.false in
+    let more : l.i + 1 - 1 ≡ suc (l.i - 1) = omega arith in
+    (omega arith, rw (more, e) l.invariant.1)
 
 pub returns : goal.returns
 unfolding neighbours_tie
 returns c =
     let a = c.args in
     let l = c.loop-i in
-    let e : l.i ≡ length a.list.now - 1 = omega arith in
-    sym l.invariant.1 ∙ ap (any_below (tied_at a.bytes.now a.offsets.now a.list.now)) e
+    let e : l.i - 1 ≡ length a.list.now - 1 = omega arith in
+    sym l.invariant.1 ∙ ap (any_below (tied_at a.ids.now.bytes.now a.ids.now.offsets.now a.list.now)) e

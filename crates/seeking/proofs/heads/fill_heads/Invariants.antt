@@ -1,5 +1,5 @@
--- The invariant: the first j heads stand for their blocks. The measure is the heads left.
-use Prim.Native.Nat.{ℕ, ◌-◌, ◌≤◌, ◌<◌}
+-- The invariant: the first j heads stand for their blocks.
+use Prim.Native.Nat.{ℕ, ◌≤◌, ◌<◌}
 use mathlib.Core.Path.{◌≡◌}
 use lib.ListN.{length, get_or}
 use Rattle.seeking.specs.Seekers.{StandsFor}
@@ -8,6 +8,3 @@ use Rattle.seeking.proofs.heads.fill_heads.Given as goal
 abbrev pub invariant-loop-j : goal.invariant-loop-j
 invariant-loop-j l =
     (l.j ≤ length l.heads) × (length l.heads ≡ length l.initial.heads) × ((i : ℕ) → i < l.j → StandsFor l.threshold l.sizes i (get_or l.heads i 0))
-
-abbrev pub decreases-loop-j : goal.decreases-loop-j
-decreases-loop-j l = length l.heads - l.j

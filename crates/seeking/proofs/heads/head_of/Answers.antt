@@ -1,4 +1,4 @@
--- The invariant: `best` stands for the numbers of the block below i. The measure is the numbers left.
+-- The invariant: `best` stands for the numbers of the block below i.
 use Prim.Native.Nat.{◌*◌}
 use native.Mathlib.Omega.{arith}
 use Rattle.seeking.proofs.Blocks.{looked_first, looked_more, looked_all}

@@ -1,4 +1,4 @@
--- The invariant: the nearest so far, once the blocks up to j were looked at. The measure is the blocks left.
+-- The invariant: the nearest so far, once the blocks up to j were looked at.
 use Prim.Native.Nat.{◌+◌, ◌*◌}
 use mathlib.Core.Path.{◌≡◌, ap, ◌∙◌, subst}
 use native.Mathlib.Omega.{arith}

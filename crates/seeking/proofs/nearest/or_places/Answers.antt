@@ -1,4 +1,4 @@
--- The invariant: the nearest so far, once the places up to i were looked at. The measure is the places left.
+-- The invariant: the nearest so far, once the places up to i were looked at.
 use mathlib.Core.Path.{◌≡◌, subst}
 use native.Mathlib.Omega.{arith}
 use Rattle.seeking.specs.Search.{Nearer}

@@ -1,4 +1,4 @@
--- The invariant: the fewest of the first j blocks are written, and the answer so far is a block. The measure is the blocks left.
+-- The invariant: the fewest of the first j blocks are written, and the answer so far is a block.
 use Prim.Native.Nat.{ℕ, ◌*◌, ◌-◌, ◌≤◌}
 use mathlib.Core.List.{List, map}
 use lib.ListN.{length}
@@ -14,6 +14,3 @@ ofBlock words wanted j = fewest words wanted (16 * j) 16
 abbrev pub invariant-loop-j : goal.invariant-loop-j
 invariant-loop-j l =
     Copied (map (ofBlock l.words l.wanted) (range 0 (length l.initial.few))) l.initial.few l.few l.j × (l.first ≤ length l.initial.few - 1)
-
-abbrev pub decreases-loop-j : goal.decreases-loop-j
-decreases-loop-j l = length l.initial.few - l.j

@@ -3,27 +3,15 @@ use Prim.Native.Nat.{◌*◌}
 use mathlib.Core.Path.{refl}
 use native.Mathlib.Omega.{arith}
 use lib.ListN.{length, get_or}
-use Rattle.lists.proofs.Front.{none_placed, one_placed, all_copied}
+use Rattle.lists.proofs.Front.{none_placed, one_placed}
 use Rattle.seeking.proofs.words.fill_words.Goals as goal
 
 pub loop-i-init : goal.loop-i-init
 loop-i-init c =
     let a = c.args in none_placed (λ i. get_or a.bits.now (4 * i) 0) (length a.words.now) a.words.now refl
 
-pub bounds-bits-i : goal.bounds-bits-i
-bounds-bits-i c = omega (arith, c.loop-i.invariant.same_length)
-
-pub loop-i-smaller : goal.loop-i-smaller
-loop-i-smaller c = omega (arith, c.loop-i.invariant.same_length)
-
 pub loop-i-preserved : goal.loop-i-preserved
 loop-i-preserved c =
     let l = c.loop-i in
     let a = c.args in
     one_placed (λ i. get_or a.bits.now (4 * i) 0) (length a.words.now) a.words.now l.words l.i l.invariant (omega (arith, l.invariant.same_length))
-
-pub shape_of-words : goal.shape_of-words
-shape_of-words c = c.loop-i.invariant.same_length
-
-pub returns : goal.returns
-returns c = all_copied _ _ _ _ c.loop-i.invariant (omega arith)

@@ -137,7 +137,7 @@ returns c =
             record {
               marks = (c.capture_all-all.new.marks);
               marked =
-                  subst (λ (l : List ℕ). AllCaptured a.flags.now a.first.now a.dependency.now a.next.now l ((c.capture_all-all.new.marks)))
+                  subst (λ (l : List ℕ). AllCaptured a.flags.now a.records.now.first.now a.records.now.dependency.now a.records.now.next.now l ((c.capture_all-all.new.marks)))
                   (stored) c.capture_all-all.ensures.all_found.captured;
               holds = c.gather_found-size.ensures;
             };

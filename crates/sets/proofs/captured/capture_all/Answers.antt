@@ -21,10 +21,10 @@ returns c =
     let a = c.args in record {
       all_found = record {
         captured = starts_captured a.flags.now a.queue.now _ _ c.requires.unmarked c.requires.room a.starts.now c.requires.starts_in
-            c.mark_starts-started.ensures a.first.now a.dependency.now a.next.now _ c.walk-found.ensures.walked.marked;
+            c.mark_starts-started.ensures a.records.now.first.now a.records.now.dependency.now a.records.now.next.now _ c.walk-found.ensures.walked.marked;
         state = c.walk-found.ensures.walked.state;
         alone = starts_alone a.flags.now a.queue.now _ _ c.requires.unmarked c.requires.room a.starts.now c.requires.starts_in
-            c.mark_starts-started.ensures a.first.now a.dependency.now a.next.now _ c.walk-found.ensures.walked.state c.walk-found.ensures.walked.marked;
+            c.mark_starts-started.ensures a.records.now.first.now a.records.now.dependency.now a.records.now.next.now _ c.walk-found.ensures.walked.state c.walk-found.ensures.walked.marked;
       };
       followed_after = c.walk-found.ensures.followed_after;
     }

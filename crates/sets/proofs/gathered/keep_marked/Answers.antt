@@ -2,7 +2,7 @@
 use Prim.Native.Nat.{◌<◌}
 use native.Mathlib.Omega.{arith}
 use lib.ListN.{length}
-use Rattle.sets.proofs.Leaving.{none_left, same_at, all_left, one_left, one_gone}
+use Rattle.sets.proofs.Leaving.{none_left, same_at, one_left, one_gone}
 use Rattle.sets.proofs.gathered.keep_marked.Goals as goal
 use Rattle.sets.proofs.gathered.keep_marked.Goals.{else-marks-m-eq1, then-marks-m-eq1}
 
@@ -13,12 +13,6 @@ pub bounds-marks-m : goal.bounds-marks-m
 bounds-marks-m c =
     let l = c.loop-i in
     rw (same_at l.invariant) (c.requires l.i (omega (arith, l.invariant.written.same_length)))
-
-pub shape_of-list : goal.shape_of-list
-shape_of-list c = c.loop-i.invariant.written.same_length
-
-pub returns : goal.returns
-returns c = all_left c.loop-i.invariant (omega (arith, c.loop-i.invariant.written.same_length))
 
 pub loop-i-preserved : goal.loop-i-preserved
 loop-i-preserved c =

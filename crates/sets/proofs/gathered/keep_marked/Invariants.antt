@@ -1,11 +1,6 @@
 -- `sets::gathered::keep_marked` meets its contract: one module more a turn, which is left if it is marked.
-use Prim.Native.Nat.{◌-◌}
-use lib.ListN.{length}
 use Rattle.sets.proofs.Leaving.{Leaving}
 use Rattle.sets.proofs.gathered.keep_marked.Given as goal
 
 abbrev pub invariant-loop-i : goal.invariant-loop-i
 invariant-loop-i l = Leaving l.marks l.initial.list l.i l.count l.list
-
-abbrev pub decreases-loop-i : goal.decreases-loop-i
-decreases-loop-i l = length l.initial.list - l.i

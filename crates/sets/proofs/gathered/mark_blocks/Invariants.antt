@@ -1,5 +1,5 @@
 -- `sets::gathered::mark_blocks` meets its contract: the block of one module more a turn.
-use Prim.Native.Nat.{◌≤◌, ◌-◌}
+use Prim.Native.Nat.{◌≤◌}
 use mathlib.Core.List.{map}
 use mathlib.Core.Path.{◌≡◌}
 use lib.ListN.{length, take}
@@ -7,9 +7,6 @@ use Rattle.lists.specs.Stored.{stored}
 use Rattle.sets.specs.Gathered.{block_of}
 use Rattle.sets.proofs.gathered.mark_blocks.Given as goal
 
-abbrev pub invariant-loop-i : goal.invariant-loop-i
-invariant-loop-i l =
-    (l.i ≤ length l.list) × (l.blocks ≡ stored 1 (take l.i (map (block_of l.place) l.list)) l.initial.blocks) × (length l.blocks ≡ length l.initial.blocks)
-
-abbrev pub decreases-loop-i : goal.decreases-loop-i
-decreases-loop-i l = length l.list - l.i
+abbrev pub invariant-loop-m : goal.invariant-loop-m
+invariant-loop-m l =
+    (l.m-index ≤ length l.list) × (l.blocks ≡ stored 1 (take l.m-index (map (block_of l.place) l.list)) l.initial.blocks) × (length l.blocks ≡ length l.initial.blocks)

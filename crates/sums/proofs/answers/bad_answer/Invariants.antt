@@ -1,19 +1,16 @@
 -- `sums::answers::bad_answer` meets its contract. The loop's invariant: whether some answer passed is K+2 or more.
-use Prim.Native.Nat.{ℕ, ◌+◌, ◌-◌, ◌≤◌}
+use Prim.Native.Nat.{ℕ, ◌+◌}
 use mathlib.Core.Bool.{Bool}
 use mathlib.Core.List.{List}
 use mathlib.Core.Path.{◌≡◌}
-use lib.ListN.{length, get_or}
+use lib.ListN.{get_or}
 use lib.Dec.{leb}
 use Rattle.lists.specs.Below.{any_below}
 use Rattle.sums.proofs.answers.bad_answer.Given as goal
 
 -- answer j is refused
-abbrev above : ℕ → List ℕ → ℕ → Bool
+abbrev pub above : ℕ → List ℕ → ℕ → Bool
 above k answers j = leb (k + 2) (get_or answers j 0)
 
-abbrev pub invariant-loop-i : goal.invariant-loop-i
-invariant-loop-i l = (l.i ≤ length l.answers) × (l.bad ≡ any_below (above l.k l.answers) l.i)
-
-abbrev pub decreases-loop-i : goal.decreases-loop-i
-decreases-loop-i l = length l.answers - l.i
+abbrev pub invariant-loop-answer : goal.invariant-loop-answer
+invariant-loop-answer l = l.bad ≡ any_below (above l.k l.answers) l.answer-index

@@ -8,10 +8,8 @@ use Rattle.sums.proofs.RowCount.{rows_begin, rows_turn, row_ready}
 use Rattle.sums.proofs.names.count_rows.Goals as goal
 
 pub loop-i-init : goal.loop-i-init
-loop-i-init c = (
-  omega arith,
-  rows_begin c.args.answers.now (length c.args.seen.now - 2) c.args.n c.args.seen.now (omega (arith, c.requires.unnamed)) c.requires.clear,
-)
+loop-i-init c =
+    rows_begin c.args.answers.now (length c.args.seen.now - 2) c.args.n c.args.seen.now (omega (arith, c.requires.unnamed)) c.requires.clear
 
 pub overflow_mul-start : goal.overflow_mul-start
 overflow_mul-start c =
@@ -43,14 +41,14 @@ count_names-count-requires c =
     let l = c.loop-i in
     rw (row_part c.args.answers.now (length c.args.seen.now - 2) c.args.n l.i)
     (row_ready c.args.answers.now (length c.args.seen.now - 2) c.args.n l.i c.args.g l.seen l.count (omega arith)
-    c.requires.whole (λ j h. omega (arith, c.requires.within j h, c.requires.unnamed)) l.invariant.1)
+    c.requires.whole (λ j h. omega (arith, c.requires.within j h, c.requires.unnamed)) l.invariant)
 
 pub overflow_add-count : goal.overflow_add-count
 overflow_add-count c =
     let l = c.loop-i in
     let counted = rw (row_part c.args.answers.now (length c.args.seen.now - 2) c.args.n l.i) at c.count_names-count.ensures in
     let t = rows_turn c.args.answers.now (length c.args.seen.now - 2) c.args.n l.i c.args.g l.seen _ l.count
-    c.count_names-count.result (omega arith) c.requires.whole l.invariant.1 counted in
+    c.count_names-count.result (omega arith) c.requires.whole l.invariant counted in
     omega (arith, t.few, row_bound l.i c.args.g c.args.n (omega arith) c.requires.groups c.requires.modules)
 
 pub loop-i-preserved : goal.loop-i-preserved
@@ -58,14 +56,14 @@ loop-i-preserved c =
     let l = c.loop-i in
     let counted = rw (row_part c.args.answers.now (length c.args.seen.now - 2) c.args.n l.i) at c.count_names-count.ensures in
     let t = rows_turn c.args.answers.now (length c.args.seen.now - 2) c.args.n l.i c.args.g l.seen _ l.count
-    c.count_names-count.result (omega arith) c.requires.whole l.invariant.1 counted in
-    (omega arith, t)
+    c.count_names-count.result (omega arith) c.requires.whole l.invariant counted in
+    t
 
 pub shape_of-seen : goal.shape_of-seen
-shape_of-seen c = omega (arith, c.loop-i.invariant.1.same_length, c.requires.unnamed)
+shape_of-seen c = omega (arith, c.loop-i.invariant.same_length, c.requires.unnamed)
 
 pub returns : goal.returns
 returns c =
     let l = c.loop-i in
     let all : l.i ≡ c.args.g = omega arith in
-    record { counted = rw all at l.invariant.1.counted; few = rw all at l.invariant.1.few }
+    record { counted = rw all at l.invariant.counted; few = rw all at l.invariant.few }

@@ -1,11 +1,8 @@
 -- `sums::names::count_rows` meets its contract. The loop's invariant: the rows of the first i groups are counted.
-use Prim.Native.Nat.{◌-◌, ◌≤◌}
+use Prim.Native.Nat.{◌-◌}
 use lib.ListN.{length}
 use Rattle.sums.proofs.RowCount.{Rows}
 use Rattle.sums.proofs.names.count_rows.Given as goal
 
 abbrev pub invariant-loop-i : goal.invariant-loop-i
-invariant-loop-i l = (l.i ≤ l.g) × Rows l.answers (length l.initial.seen - 2) l.n l.i l.seen l.count
-
-abbrev pub decreases-loop-i : goal.decreases-loop-i
-decreases-loop-i l = l.g - l.i
+invariant-loop-i l = Rows l.answers (length l.initial.seen - 2) l.n l.i l.seen l.count

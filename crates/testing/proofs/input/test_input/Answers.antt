@@ -1,6 +1,6 @@
--- `testing::input::test_input` meets its contract: 1 to 3 by their number, then 4 to 10.
-use mathlib.Core.Path.{◌≡◌, ◌∙◌}
-use native.Mathlib.Omega.{arith}
+-- `testing::input::test_input` meets its contract: 1 to 3 first, then 4 to 10.
+use mathlib.Core.Path.{◌≡◌}
+use Rattle.std.proofs.lemmas.Result.{err_from_is_err_and}
 use Rattle.grouping.specs.Given.{Shared, Variant}
 use Rattle.conditions.specs.Ladder.{shape_tests}
 use Rattle.refusal.specs.Outcome.{first_number}
@@ -8,12 +8,14 @@ use Rattle.testing.proofs.Handing.{build, hands_itself, hands_shape, hands_order
 use Rattle.testing.proofs.InputLadder.{shape_refuses, order_decides}
 use Rattle.testing.proofs.input.test_input.Goals as goal
 
-pub returns-then-shape-ne0 : goal.returns-then-shape-ne0
-returns-then-shape-ne0 c =
+pub returns-in_err-shape_number : goal.returns-in_err-shape_number
+returns-in_err-shape_number c =
+    let p = err_from_is_err_and c.from_residual.result c.from_residual.ensures.1 in
     λ b h.
-    shape_refuses c.shape_number-shape.result (omega arith)
-    (c.shape_number-shape.ensures b
-    (hands_shape _ _ _ _ _ c.module_lengths-modules.ensures c.record_lengths-records.ensures c.group_lengths-groups.ensures h))
+    rw (p.1, p.2)
+    (shape_refuses _
+    (c.in_err-shape_number.ensures b
+    (hands_shape _ _ _ _ _ c.module_lengths-by_module.ensures c.record_lengths-by_record.ensures c.group_lengths-by_group.ensures h)))
 
 pub test_order-requires : goal.test_order-requires
 test_order-requires c =
@@ -28,33 +30,32 @@ test_order-requires c =
       shares = a.shares.now;
       tags = a.tags.now;
       bits = a.bits.now;
-      bytes = a.bytes.now;
-      offsets = a.offsets.now;
-      first = a.first.now;
-      dependency = a.dependency.now;
-      next = a.next.now;
+      bytes = a.ids.now.bytes.now;
+      offsets = a.ids.now.offsets.now;
+      first = a.records.now.first.now;
+      dependency = a.records.now.dependency.now;
+      next = a.records.now.next.now;
       options = a.options;
     } in
     let v : Variant = record {
       flags = a.flags.now;
       g = a.g;
       groups = record {
-        given = a.given.now;
-        min_size = a.min_size.now;
-        max_size = a.max_size.now;
-        min_module_size = a.min_module_size.now;
-        max_module_size = a.max_module_size.now;
-        min_share_count = a.min_share_count.now;
-        tags = a.group_tags.now;
-        priority = a.priority.now;
-        threshold = a.threshold.now;
+        given = a.groups.now.given.now;
+        min_size = a.groups.now.min_size.now;
+        max_size = a.groups.now.max_size.now;
+        min_module_size = a.groups.now.min_module_size.now;
+        max_module_size = a.groups.now.max_module_size.now;
+        min_share_count = a.groups.now.min_share_count.now;
+        tags = a.groups.now.tags.now;
+        priority = a.groups.now.priority.now;
+        threshold = a.groups.now.threshold.now;
       };
       answers = a.answers.now;
     } in
-    let none : 0 ≡ c.shape_number-shape.result = omega arith in
-    let z : 0 ≡ first_number (shape_tests (build s v)) = none
-    ∙ c.shape_number-shape.ensures (build s v)
-    (hands_shape s v _ _ _ c.module_lengths-modules.ensures c.record_lengths-records.ensures c.group_lengths-groups.ensures (hands_itself s v)) in
+    let z : 0 ≡ first_number (shape_tests (build s v)) =
+    c.in_ok-shape_number.ensures (build s v)
+    (hands_shape s v _ _ _ c.module_lengths-by_module.ensures c.record_lengths-by_record.ensures c.group_lengths-by_group.ensures (hands_itself s v)) in
     (order_ready s v z _ _ c.requires.0 c.requires.1, content_ready s v z)
 
 pub returns : goal.returns
@@ -70,36 +71,34 @@ returns c =
       shares = a.shares.now;
       tags = a.tags.now;
       bits = a.bits.now;
-      bytes = a.bytes.now;
-      offsets = a.offsets.now;
-      first = a.first.now;
-      dependency = a.dependency.now;
-      next = a.next.now;
+      bytes = a.ids.now.bytes.now;
+      offsets = a.ids.now.offsets.now;
+      first = a.records.now.first.now;
+      dependency = a.records.now.dependency.now;
+      next = a.records.now.next.now;
       options = a.options;
     } in
     let v : Variant = record {
       flags = a.flags.now;
       g = a.g;
       groups = record {
-        given = a.given.now;
-        min_size = a.min_size.now;
-        max_size = a.max_size.now;
-        min_module_size = a.min_module_size.now;
-        max_module_size = a.max_module_size.now;
-        min_share_count = a.min_share_count.now;
-        tags = a.group_tags.now;
-        priority = a.priority.now;
-        threshold = a.threshold.now;
+        given = a.groups.now.given.now;
+        min_size = a.groups.now.min_size.now;
+        max_size = a.groups.now.max_size.now;
+        min_module_size = a.groups.now.min_module_size.now;
+        max_module_size = a.groups.now.max_module_size.now;
+        min_share_count = a.groups.now.min_share_count.now;
+        tags = a.groups.now.tags.now;
+        priority = a.groups.now.priority.now;
+        threshold = a.groups.now.threshold.now;
       };
       answers = a.answers.now;
     } in
-    let none : 0 ≡ c.shape_number-shape.result = omega (arith, c.if-shape-ne0.false) in
-    let z : 0 ≡ first_number (shape_tests (build s v)) = none
-    ∙ c.shape_number-shape.ensures (build s v)
-    (hands_shape s v _ _ _ c.module_lengths-modules.ensures c.record_lengths-records.ensures c.group_lengths-groups.ensures (hands_itself s v)) in
+    let z : 0 ≡ first_number (shape_tests (build s v)) =
+    c.in_ok-shape_number.ensures (build s v)
+    (hands_shape s v _ _ _ c.module_lengths-by_module.ensures c.record_lengths-by_record.ensures c.group_lengths-by_group.ensures (hands_itself s v)) in
     λ b h.
     order_decides
-    (none
-    ∙ c.shape_number-shape.ensures b
-    (hands_shape s v _ _ _ c.module_lengths-modules.ensures c.record_lengths-records.ensures c.group_lengths-groups.ensures h))
+    (c.in_ok-shape_number.ensures b
+    (hands_shape s v _ _ _ c.module_lengths-by_module.ensures c.record_lengths-by_record.ensures c.group_lengths-by_group.ensures h))
     (c.test_order.ensures b (hands_order s v z h) (hands_content s v z h))

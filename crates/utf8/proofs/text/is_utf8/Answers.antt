@@ -1,4 +1,4 @@
--- `utf8::text::is_utf8` meets its contract. The invariant: from the state on, the bytes from i on are text as the whole bytes are.
+-- `utf8::text::is_utf8` meets its contract. The invariant: from the state on, the bytes that are left are text as the whole bytes are.
 use Prim.Native.Nat.{◌+◌}
 use mathlib.Core.List.{[]}
 use mathlib.Core.Path.{◌≡◌, refl, sym, ◌∙◌, ap}
@@ -9,9 +9,9 @@ use Rattle.utf8.specs.States.{due_in, goes_from}
 use Rattle.utf8.proofs.StateLaws.{goes_nowhere, goes_ended, goes_next}
 use Rattle.utf8.proofs.text.is_utf8.Goals as goal
 
-pub loop-i-init : goal.loop-i-init
+pub loop-byte-init : goal.loop-byte-init
 unfolding goes_from due_in utf8
-loop-i-init c = (omega arith, refl)
+loop-byte-init c = refl
 
 pub next_state-state-requires : goal.next_state-state-requires
 next_state-state-requires c = tt
@@ -19,22 +19,22 @@ next_state-state-requires c = tt
 pub returns-then-state-ge-NO_TEXT : goal.returns-then-state-ge-NO_TEXT
 returns-then-state-ge-NO_TEXT c =
     let a = c.args in
-    let s = c.loop-i in
+    let s = c.loop-byte in
     let r = c.next_state-state in
-    sym (goes_nowhere r.result (drop (s.i + 1) a.bytes.now) c.if-state-ge-NO_TEXT.true)
-    ∙ goes_next a.bytes.now s.i s.state r.result (omega arith) r.ensures
-    ∙ s.invariant.1
+    sym (goes_nowhere r.result (drop (s.byte-index + 1) a.bytes.now) c.if-state-ge-NO_TEXT.true)
+    ∙ goes_next a.bytes.now s.byte-index s.state r.result (omega arith) r.ensures
+    ∙ s.invariant
 
-pub loop-i-preserved : goal.loop-i-preserved
-loop-i-preserved c =
+pub loop-byte-preserved : goal.loop-byte-preserved
+loop-byte-preserved c =
     let a = c.args in
-    let s = c.loop-i in
+    let s = c.loop-byte in
     let r = c.next_state-state in
-    (omega arith, goes_next a.bytes.now s.i s.state r.result (omega arith) r.ensures ∙ s.invariant.1)
+    goes_next a.bytes.now s.byte-index s.state r.result (omega arith) r.ensures ∙ s.invariant
 
 pub returns : goal.returns
 returns c =
     let a = c.args in
-    let s = c.loop-i in
-    let done : drop s.i a.bytes.now ≡ [] = drop_of_length-le a.bytes.now c.loop-i-test.false in
-    sym (goes_ended s.state) ∙ ap (goes_from s.state) (sym done) ∙ s.invariant.1
+    let s = c.loop-byte in
+    let done : drop s.byte-index a.bytes.now ≡ [] = drop_of_length-le a.bytes.now c.loop-byte-test.false in
+    sym (goes_ended s.state) ∙ ap (goes_from s.state) (sym done) ∙ s.invariant

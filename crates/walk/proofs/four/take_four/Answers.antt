@@ -60,6 +60,6 @@ pub returns : goal.returns
 returns c =
     let a = c.args in
     let e = c.follow_four.ensures in
-    let q = four_named a.first.now a.dependency.now a.next.now _ a.queue.now a.head (room c.requires)
+    let q = four_named a.records.now.first.now a.records.now.dependency.now a.records.now.next.now _ a.queue.now a.head (room c.requires)
     c.first_at-a.ensures c.first_at-b.ensures c.first_at-c.ensures c.first_at-d.ensures in
     record { visited = named_as q e.visited; gone_value = e.gone_value ∙ ap (λ (ks : List ℕ). a.gone + length ks) q }

@@ -8,8 +8,8 @@ use Rattle.walk.proofs.walk.follow.Given as goal
 
 abbrev pub invariant-loop-followed : goal.invariant-loop-followed
 invariant-loop-followed l =
-    Following l.flags l.dependency l.next (length l.flags) (length l.next - 1) (record { marks = l.initial.marks; queue = l.initial.queue; tail = l.initial.found }) l.initial.followed l.initial.r
+    Following l.flags l.records.dependency.now l.records.next.now (length l.flags) (length l.records.next.now - 1) (record { marks = l.initial.marks; queue = l.initial.queue; tail = l.initial.found }) l.initial.followed l.initial.r
     (record { marks = l.marks; queue = l.queue; tail = l.found }) l.followed l.r
 
 abbrev pub decreases-loop-followed : goal.decreases-loop-followed
-decreases-loop-followed l = length (chain_from l.next (length l.next - 1) l.r)
+decreases-loop-followed l = length (chain_from l.records.next.now (length l.records.next.now - 1) l.r)

@@ -16,8 +16,8 @@ pub loop-head-init : goal.loop-head-init
 loop-head-init c =
     let a = c.args in
     let p = c.requires in (
-      walk_resumes a.flags.now a.first.now a.dependency.now a.next.now _ _ _ p.state _ p.start_in p.closed,
-      trail_begins a.flags.now a.first.now a.dependency.now a.next.now _ _ p.tables.records.few _ _ _ p.clear,
+      walk_resumes a.flags.now a.records.now.first.now a.records.now.dependency.now a.records.now.next.now _ _ _ p.state _ p.start_in p.closed,
+      trail_begins a.flags.now a.records.now.first.now a.records.now.dependency.now a.records.now.next.now _ _ p.tables.records.few _ _ _ p.clear,
     )
 
 pub offset_bounds-queue-head : goal.offset_bounds-queue-head
@@ -38,7 +38,7 @@ bounds-queue-head c =
 
 pub follow-found-requires : goal.follow-found-requires
 follow-found-requires c =
-    let tables_good : Good c.args.first.now c.args.dependency.now c.args.next.now (length c.args.flags.now) (length c.args.next.now - 1) =
+    let tables_good : Good c.args.records.now.first.now c.args.records.now.dependency.now c.args.records.now.next.now (length c.args.flags.now) (length c.args.records.now.next.now - 1) =
     good _ _ _ _ _ c.requires.tables.good in
     let a = c.args in
     let p = c.loop-head.invariant in
@@ -46,7 +46,7 @@ follow-found-requires c =
     record {
       tables = c.requires.tables;
       state = p.0.state;
-      module_in = taken_in a.flags.now a.first.now a.dependency.now a.next.now _ _ (tables_good) _ _ _ p.0 h;
+      module_in = taken_in a.flags.now a.records.now.first.now a.records.now.dependency.now a.records.now.next.now _ _ (tables_good) _ _ _ p.0 h;
       before = p.1.marks;
     }
 
@@ -68,72 +68,72 @@ loop-head-smaller c =
 
 pub loop-head-preserved : goal.loop-head-preserved
 loop-head-preserved c =
-    let tables_good : Good c.args.first.now c.args.dependency.now c.args.next.now (length c.args.flags.now) (length c.args.next.now - 1) =
+    let tables_good : Good c.args.records.now.first.now c.args.records.now.dependency.now c.args.records.now.next.now (length c.args.flags.now) (length c.args.records.now.next.now - 1) =
     good _ _ _ _ _ c.requires.tables.good in
     let a = c.args in
     let p = c.loop-head.invariant in
     let h = c.loop-head-test.true in
     let e = c.follow-found.ensures in (
-      walk_turns a.flags.now a.first.now a.dependency.now a.next.now _ _ (tables_good) _ _ _ p.0 h e.of_value,
-      trail_turns a.flags.now a.first.now a.dependency.now a.next.now _ _ (tables_good) _ _ _ p.0 h _ _ p.1 e.of_value e.followed_after,
+      walk_turns a.flags.now a.records.now.first.now a.records.now.dependency.now a.records.now.next.now _ _ (tables_good) _ _ _ p.0 h e.of_value,
+      trail_turns a.flags.now a.records.now.first.now a.records.now.dependency.now a.records.now.next.now _ _ (tables_good) _ _ _ p.0 h _ _ p.1 e.of_value e.followed_after,
     )
 
 pub offset_bounds-queue-start : goal.offset_bounds-queue-start
 offset_bounds-queue-start c =
-    let tables_good : Good c.args.first.now c.args.dependency.now c.args.next.now (length c.args.flags.now) (length c.args.next.now - 1) =
+    let tables_good : Good c.args.records.now.first.now c.args.records.now.dependency.now c.args.records.now.next.now (length c.args.flags.now) (length c.args.records.now.next.now - 1) =
     good _ _ _ _ _ c.requires.tables.good in
     let part : c.loop-head.found ≤ c.loop-head.head
     → (c.args.start ≤ c.loop-head.found) × (c.loop-head.found ≤ length c.loop-head.queue) =
     λ h.
     let a = c.args in
     let p = c.loop-head.invariant in
-    part_in a.flags.now a.first.now a.dependency.now a.next.now _ _ c.requires.tables.records (tables_good) _ _ _ p.0 h _ _ p.1 in
+    part_in a.flags.now a.records.now.first.now a.records.now.dependency.now a.records.now.next.now _ _ c.requires.tables.records (tables_good) _ _ _ p.0 h _ _ p.1 in
     omega (arith, part c.loop-head-test.false, c.well_formed)
 
 pub slice_bounds-forget_all-count : goal.slice_bounds-forget_all-count
 slice_bounds-forget_all-count c =
-    let tables_good : Good c.args.first.now c.args.dependency.now c.args.next.now (length c.args.flags.now) (length c.args.next.now - 1) =
+    let tables_good : Good c.args.records.now.first.now c.args.records.now.dependency.now c.args.records.now.next.now (length c.args.flags.now) (length c.args.records.now.next.now - 1) =
     good _ _ _ _ _ c.requires.tables.good in
     let part : c.loop-head.found ≤ c.loop-head.head
     → (c.args.start ≤ c.loop-head.found) × (c.loop-head.found ≤ length c.loop-head.queue) =
     λ h.
     let a = c.args in
     let p = c.loop-head.invariant in
-    part_in a.flags.now a.first.now a.dependency.now a.next.now _ _ c.requires.tables.records (tables_good) _ _ _ p.0 h _ _ p.1 in
+    part_in a.flags.now a.records.now.first.now a.records.now.dependency.now a.records.now.next.now _ _ c.requires.tables.records (tables_good) _ _ _ p.0 h _ _ p.1 in
     omega (arith, part c.loop-head-test.false)
 
 pub slice_bounds-forget_all-start : goal.slice_bounds-forget_all-start
 slice_bounds-forget_all-start c =
-    let tables_good : Good c.args.first.now c.args.dependency.now c.args.next.now (length c.args.flags.now) (length c.args.next.now - 1) =
+    let tables_good : Good c.args.records.now.first.now c.args.records.now.dependency.now c.args.records.now.next.now (length c.args.flags.now) (length c.args.records.now.next.now - 1) =
     good _ _ _ _ _ c.requires.tables.good in
     let part : c.loop-head.found ≤ c.loop-head.head
     → (c.args.start ≤ c.loop-head.found) × (c.loop-head.found ≤ length c.loop-head.queue) =
     λ h.
     let a = c.args in
     let p = c.loop-head.invariant in
-    part_in a.flags.now a.first.now a.dependency.now a.next.now _ _ c.requires.tables.records (tables_good) _ _ _ p.0 h _ _ p.1 in
+    part_in a.flags.now a.records.now.first.now a.records.now.dependency.now a.records.now.next.now _ _ c.requires.tables.records (tables_good) _ _ _ p.0 h _ _ p.1 in
     omega (arith, part c.loop-head-test.false)
 
 pub slice_bounds-forget_all-end : goal.slice_bounds-forget_all-end
 slice_bounds-forget_all-end c =
-    let tables_good : Good c.args.first.now c.args.dependency.now c.args.next.now (length c.args.flags.now) (length c.args.next.now - 1) =
+    let tables_good : Good c.args.records.now.first.now c.args.records.now.dependency.now c.args.records.now.next.now (length c.args.flags.now) (length c.args.records.now.next.now - 1) =
     good _ _ _ _ _ c.requires.tables.good in
     let part : c.loop-head.found ≤ c.loop-head.head
     → (c.args.start ≤ c.loop-head.found) × (c.loop-head.found ≤ length c.loop-head.queue) =
     λ h.
     let a = c.args in
     let p = c.loop-head.invariant in
-    part_in a.flags.now a.first.now a.dependency.now a.next.now _ _ c.requires.tables.records (tables_good) _ _ _ p.0 h _ _ p.1 in
+    part_in a.flags.now a.records.now.first.now a.records.now.dependency.now a.records.now.next.now _ _ c.requires.tables.records (tables_good) _ _ _ p.0 h _ _ p.1 in
     omega (arith, part c.loop-head-test.false)
 
 pub forget_all-requires : goal.forget_all-requires
 forget_all-requires c =
-    let tables_good : Good c.args.first.now c.args.dependency.now c.args.next.now (length c.args.flags.now) (length c.args.next.now - 1) =
+    let tables_good : Good c.args.records.now.first.now c.args.records.now.dependency.now c.args.records.now.next.now (length c.args.flags.now) (length c.args.records.now.next.now - 1) =
     good _ _ _ _ _ c.requires.tables.good in
     let a = c.args in
     let p = c.loop-head.invariant in
     let h = c.loop-head-test.false in
-    trail_ends a.flags.now a.first.now a.dependency.now a.next.now _ _ c.requires.tables.records (tables_good) _ _ _ p.0 h _ _ p.1
+    trail_ends a.flags.now a.records.now.first.now a.records.now.dependency.now a.records.now.next.now _ _ c.requires.tables.records (tables_good) _ _ _ p.0 h _ _ p.1
 
 pub shape_of-marks : goal.shape_of-marks
 shape_of-marks c = c.loop-head.invariant.0.state.mark_bytes ∙ sym c.requires.state.mark_bytes
@@ -148,4 +148,4 @@ shape_of-followed c =
 pub returns : goal.returns
 returns c =
     let a = c.args in
-    let p = c.loop-head.invariant.0 in record { walked = walk_ends a.flags.now a.first.now a.dependency.now a.next.now _ _ _ _ _ p c.loop-head-test.false c.requires.state.mark_bytes; followed_after = c.forget_all.ensures }
+    let p = c.loop-head.invariant.0 in record { walked = walk_ends a.flags.now a.records.now.first.now a.records.now.dependency.now a.records.now.next.now _ _ _ _ _ p c.loop-head-test.false c.requires.state.mark_bytes; followed_after = c.forget_all.ensures }

@@ -8,9 +8,9 @@ use Rattle.walk.proofs.walk.walk_marked.Given as goal
 
 abbrev pub invariant-loop-head : goal.invariant-loop-head
 invariant-loop-head l =
-    Walking l.flags l.first l.dependency l.next (length l.flags) (length l.next - 1) (record { marks = l.initial.marks; queue = l.initial.queue; tail = l.initial.found }) l.head
+    Walking l.flags l.records.first.now l.records.dependency.now l.records.next.now (length l.flags) (length l.records.next.now - 1) (record { marks = l.initial.marks; queue = l.initial.queue; tail = l.initial.found }) l.head
     (record { marks = l.marks; queue = l.queue; tail = l.found })
-    × Trail l.flags l.first l.dependency l.next (length l.flags) (length l.next - 1) l.start l.head (record { marks = l.marks; queue = l.queue; tail = l.found }) l.followed
+    × Trail l.flags l.records.first.now l.records.dependency.now l.records.next.now (length l.flags) (length l.records.next.now - 1) l.start l.head (record { marks = l.marks; queue = l.queue; tail = l.found }) l.followed
 
 abbrev pub decreases-loop-head : goal.decreases-loop-head
 decreases-loop-head l = length l.flags - l.head

@@ -12,8 +12,8 @@ returns-then-self c =
     let a = c.args in
     sym (ap (λ t. t && lt a.self.size a.threshold) (ap (λ z. lt z a.self.size) (sym zero_double) ∙ c.if-self.true))
 
-pub returns : goal.returns
+pub returns-else-self : goal.returns-else-self
 unfolding seeking
-returns c =
+returns-else-self c =
     let a = c.args in
-    sym (ap (λ t. t && lt a.self.size a.threshold) (ap (λ z. lt z a.self.size) (sym zero_double) ∙ c.if-self.false))
+    c.if-self.false ∙ sym (ap (λ t. t && lt a.self.size a.threshold) (ap (λ z. lt z a.self.size) (sym zero_double) ∙ c.if-self.false))

@@ -1,9 +1,0 @@
--- `buildlines::groups::read_row` is safe and ends. The measure is the number of answers that are left.
-use Prim.Native.Nat.{◌-◌}
-use Rattle.buildlines.proofs.groups.read_row.Given as goal
-
-abbrev pub invariant-loop-i : goal.invariant-loop-i
-invariant-loop-i l = Unit {0}
-
-abbrev pub decreases-loop-i : goal.decreases-loop-i
-decreases-loop-i l = l.n - l.i

@@ -1,2 +1,0 @@
--- The answer of the call Chunks.
-pub mod Answer

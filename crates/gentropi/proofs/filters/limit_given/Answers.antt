@@ -1,5 +1,0 @@
--- `gentropi::filters::limit_given` meets its contract: the definition computes at the bool that the branch tested.
-use Rattle.gentropi.proofs.filters.limit_given.Goals as goal
-
-pub returns-then-given : goal.returns-then-given
-returns-then-given c = rw c.if-given.true

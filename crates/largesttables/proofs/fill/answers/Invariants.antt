@@ -1,9 +1,0 @@
--- `largesttables::fill::answers` is safe and ends. The measure is the number of answers that are left.
-use Prim.Native.Nat.{◌-◌}
-use Rattle.largesttables.proofs.fill.answers.Given as goal
-
-abbrev pub invariant-loop-i : goal.invariant-loop-i
-invariant-loop-i l = Unit {0}
-
-abbrev pub decreases-loop-i : goal.decreases-loop-i
-decreases-loop-i l = 266305 - l.i

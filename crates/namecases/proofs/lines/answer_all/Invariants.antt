@@ -1,9 +1,0 @@
--- `namecases::lines::answer_all` is safe and ends. The measure is what is left of the input.
-use Rattle.std.proofs.Common.{◌-◌, length}
-use Rattle.namecases.proofs.lines.answer_all.Given as goal
-
-abbrev pub invariant-loop-at : goal.invariant-loop-at
-invariant-loop-at l = Unit {0}
-
-abbrev pub decreases-loop-at : goal.decreases-loop-at
-decreases-loop-at l = length l.input - l.at

@@ -1,9 +1,0 @@
--- `tablecalls::merges::read_subgroups` is safe and ends. The measure is the number of subgroups that are left.
-use Rattle.std.proofs.Common.{◌-◌}
-use Rattle.tablecalls.proofs.merges.read_subgroups.Given as goal
-
-abbrev pub invariant-loop-i : goal.invariant-loop-i
-invariant-loop-i l = Unit {0}
-
-abbrev pub decreases-loop-i : goal.decreases-loop-i
-decreases-loop-i l = l.k - l.i

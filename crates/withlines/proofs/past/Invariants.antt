@@ -1,9 +1,0 @@
--- `withlines::past` is safe and ends. The measure is the number of words that are left.
-use Rattle.std.proofs.Common.{◌-◌}
-use Rattle.withlines.proofs.past.Given as goal
-
-abbrev pub invariant-loop-i : goal.invariant-loop-i
-invariant-loop-i l = Unit {0}
-
-abbrev pub decreases-loop-i : goal.decreases-loop-i
-decreases-loop-i l = l.count - l.i
