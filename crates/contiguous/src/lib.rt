@@ -9,9 +9,9 @@ use records::Records;
 
 // Where a chain was laid: the record that it begins with, and the first record behind it.
 #[derive(Clone, Copy)]
-struct LaidChain {
-    first: usize,
-    end: usize,
+pub struct LaidChain {
+    pub first: usize,
+    pub end: usize,
 }
 
 // Lays the records of a chain from record `at` on, in the first `room` words of two tables. Each is followed by the one laid before it, so the new

@@ -1,14 +1,16 @@
 -- Laws of the similarity: its bound, that it is symmetric, that the call tests in ascending order, and the similarity from byte i on.
-use Prim.Native.Nat.{ℕ, ◌+◌, ◌-◌, ◌*◌, min, ◌≤◌}
+use Prim.Native.Nat.{ℕ, ◌+◌, ◌-◌, ◌*◌, min, ◌≤◌, ◌<◌}
 use mathlib.Core.Bool.{Bool, true, false, cond}
 use mathlib.Core.List.{List, [], ◌∷◌}
 use mathlib.Core.Path.{◌≡◌, refl, ap₂}
 use native.Mathlib.Decide.{dec_le}
 use native.Mathlib.Nat.{max_comm, min_comm}
+use native.Mathlib.Numerals.{add-one}
 use native.Mathlib.Omega.{arith}
 use borrow.Author.Tests.{lt-ltb, le-ltb}
 use lib.Dec.{ltb}
-use lib.ListN.{length}
+use lib.ListN.{length, get_or, drop, drop_of_length-le}
+use lib.Seq.{drop-cons}
 use Rattle.refusal.specs.Outcome.{Outcome, ascending}
 use Rattle.refusal.proofs.Ladder.{Row, row}
 use Rattle.similarity.specs.Similarity.{gap, byte_score, similarity, similarity_tests, similarity_call}
@@ -60,19 +62,30 @@ pub decided : (l r : List ℕ) {o : Outcome ℕ} → Row (similarity l r) (simil
 unfolding similarity_call
 decided l r tests = row tests
 
--- ---- the first pair, and the end of either id
+-- ---- two ids from byte i on, as a loop over both meets them
 
-pub first_pair : {left l right r : List ℕ} {a b : ℕ} → left ≡ a ∷ l → right ≡ b ∷ r → similarity left right ≡ byte_score a b + similarity l r
+nothing_right : (l : List ℕ) → similarity l [] ≡ 0
 unfolding similarity
-first_pair e f = rw (e, f) refl
+nothing_right [] = refl
+nothing_right (a ∷ l) = refl
 
-pub nothing_left : (l r : List ℕ) → length l ≡ 0 → similarity l r ≡ 0
-unfolding similarity
-nothing_left [] r e = refl
-nothing_left (a ∷ l) r e = absurd (omega arith)
+module _ (l r : List ℕ) (i : ℕ) where
+  from_left_done : length l ≤ i → similarity (drop i l) (drop i r) ≡ 0
+  unfolding similarity
+  from_left_done h = rw (drop_of_length-le l h)
 
-pub nothing_right : (l r : List ℕ) → length r ≡ 0 → similarity l r ≡ 0
-unfolding similarity
-nothing_right [] r e = refl
-nothing_right (a ∷ l) [] e = refl
-nothing_right (a ∷ l) (b ∷ r) e = absurd (omega arith)
+  from_right_done : length r ≤ i → similarity (drop i l) (drop i r) ≡ 0
+  from_right_done h = rw (drop_of_length-le r h) (nothing_right (drop i l))
+
+  -- past the common length
+  pub from_done : min (length l) (length r) ≤ i → similarity (drop i l) (drop i r) ≡ 0
+  from_done h = go (dec_le (length l) (length r))
+    where
+      go : Dec (length l ≤ length r) → similarity (drop i l) (drop i r) ≡ 0
+      go (yes p) = from_left_done (omega arith)
+      go (no p) = from_right_done (omega arith)
+
+  pub from_pair : i < length l → i < length r
+      → similarity (drop i l) (drop i r) ≡ byte_score (get_or l i 0) (get_or r i 0) + similarity (drop (i + 1) l) (drop (i + 1) r)
+  unfolding similarity
+  from_pair p q = rw (add-one, drop-cons l i 0 p, drop-cons r i 0 q)

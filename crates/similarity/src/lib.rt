@@ -28,9 +28,10 @@ pub fn similarity_within(lhs: &[u8], rhs: &[u8]) -> u32
     requires { length lhs.now ≤ 1024 }
     ensures { result ≡ similarity lhs.now rhs.now }
 {
+    let end = lhs.len().min(rhs.len());
     let mut score: u16 = 0;
-    for (left, right) in lhs.iter().zip(rhs.iter()) {
-        score += byte_score(*left, *right) as u16;
+    for i in 0..end {
+        score += byte_score(lhs[i], rhs[i]) as u16;
     }
     score as u32
 }
