@@ -94,11 +94,17 @@ fn read_records(lent: &mut Lent, reader: &mut Reader) -> Result<(), Unread> {
 
 impl Build {
     // One line, of which the first word has been read, over a build of n modules.
-    fn read_line(&mut self, step: &[u8], n: usize, reader: &mut Reader) -> Result<(), Unread>
+    fn read_line(
+        &mut self,
+        step: &[u8],
+        n: usize,
+        modules: &mut ModuleTables,
+        reader: &mut Reader,
+    ) -> Result<(), Unread>
         requires { n ≤ 64 }
     {
         match step {
-            b"offsets" => read_offsets(&mut self.tables.modules, n, reader),
+            b"offsets" => read_offsets(modules, n, reader),
             b"len" => read_length(&mut self.lengths, reader),
             b"count" => read_count(&mut self.counts, reader),
             b"areas" => {
@@ -111,13 +117,18 @@ impl Build {
     }
 
     // The lines up to `end`, at most 64.
-    pub fn read_damage(&mut self, n: usize, reader: &mut Reader) -> Result<(), Unread>
+    pub fn read_damage(
+        &mut self,
+        n: usize,
+        modules: &mut ModuleTables,
+        reader: &mut Reader,
+    ) -> Result<(), Unread>
         requires { n ≤ 64 }
     {
         for _ in 0..64 {
             match reader.word()? {
                 b"end" => return Ok(()),
-                step => self.read_line(step, n, reader)?,
+                step => self.read_line(step, n, modules, reader)?,
             }
         }
         Err(Unread)

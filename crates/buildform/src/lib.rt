@@ -12,12 +12,11 @@ use buildlines::given::GivenOptions;
 use buildlines::reader::{Reader, Unread};
 use buildlines::tables::{GROUPS, MODULES, RECORDS, Tables};
 
-// What a call is given: counts, global options, tables and how much of each is handed over, and how much of each area is lent.
-#[derive(Drop)]
+// What a call is given beside its tables: counts, global options, how much of each table is handed over, and how much of each area is lent.
+#[derive(Clone, Copy)]
 pub struct Build {
     pub counts: Counts,
     pub options: GivenOptions,
-    pub tables: Tables,
     pub lengths: Lengths,
     pub lent: Lent,
 }
@@ -43,32 +42,29 @@ fn read_counts(reader: &mut Reader) -> Result<Counts, Unread>
 }
 
 // The lines of modules, dependency records, groups and answers.
-fn read_tables(counts: Counts, reader: &mut Reader) -> Result<Tables, Unread>
+fn read_tables(counts: Counts, tables: &mut Tables, reader: &mut Reader) -> Result<(), Unread>
     requires { (counts.n ≤ 64) × (counts.g ≤ 96) × (counts.d ≤ 128) }
 {
-    let mut tables = Tables::empty();
     tables.modules.read(counts.n, &mut tables.ids, reader)?;
     tables.records.read(counts.d, reader)?;
     tables.groups.read(counts.g, reader)?;
-    tables.answers.read(counts.g, counts.n, reader)?;
-    Ok(tables)
+    tables.answers.read(counts.g, counts.n, reader)
 }
 
-// A build, of whose first line the tag has been read.
-pub fn read(reader: &mut Reader) -> Result<Build, Unread> {
+// A build, of whose first line the tag has been read, into tables that are empty. They stay where they are: handed back, they would be copied.
+pub fn read(tables: &mut Tables, reader: &mut Reader) -> Result<Build, Unread> {
     let counts = read_counts(reader)?;
     reader.letter(b'o')?;
     let options = GivenOptions::read(reader)?;
-    let tables = read_tables(counts, reader)?;
+    read_tables(counts, tables, reader)?;
     let lengths = lengths::implied(counts, tables.answers.length);
     let lent = lengths::spare(counts.n);
     let mut build = Build {
         counts,
         options,
-        tables,
         lengths,
         lent,
     };
-    build.read_damage(counts.n, reader)?;
+    build.read_damage(counts.n, &mut tables.modules, reader)?;
     Ok(build)
 }

@@ -5,24 +5,33 @@ use crate::given::GivenOptions;
 use crate::reader::{Reader, Unread};
 use crate::tables::{ALL_ANSWERS, Answers, GroupTables};
 
-fn bit_if(said: bool, bit: u8) -> u8 {
+fn bit_if(said: bool, bit: u8) -> u8
+    ensures { result ≤ bit }
+{
     if said { bit } else { 0 }
+}
+
+// The bit of what is off, or those of what is on.
+fn choice_bits(choice: Option<bool>, off: u8, on: u8) -> u8
+    requires { off ≤ on }
+    ensures { result ≤ on }
+{
+    match choice {
+        None => 0,
+        Some(false) => off,
+        Some(true) => on,
+    }
 }
 
 // The byte that says which options a group has, and that it is entries-aware.
 fn given_byte(own: GivenOptions, entries_aware: Option<bool>) -> u8 {
-    let recursion = match own.recursion {
-        None => 0,
-        Some(false) => 32,
-        Some(true) => 96,
-    };
     bit_if(own.min_size.is_some(), 1)
         | bit_if(own.max_size.is_some(), 2)
         | bit_if(own.min_module_size.is_some(), 4)
         | bit_if(own.max_module_size.is_some(), 8)
         | bit_if(own.min_share_count.is_some(), 16)
-        | recursion
-        | bit_if(entries_aware.unwrap_or(false), 128)
+        | choice_bits(own.recursion, 32, 96)
+        | choice_bits(entries_aware, 0, 128)
 }
 
 impl GroupTables {

@@ -5,6 +5,7 @@ mod tables;
 
 use buildcalls::Form;
 use buildlines::reader::{Reader, Unread};
+use buildlines::tables::Tables;
 use textform::out;
 
 // Tells what can't be read: a word that begins no case, or the tag of a case.
@@ -17,9 +18,10 @@ pub fn unread(what: &[u8]) -> Unread {
 
 // Runs the case whose tag has been read.
 pub fn answer_case(form: Form, tag: &[u8], reader: &mut Reader) -> Result<(), Unread> {
-    let Ok(build) = buildform::read(reader) else {
+    let mut tables = Tables::empty();
+    let Ok(build) = buildform::read(&mut tables, reader) else {
         return Err(unread(tag));
     };
-    buildcalls::answer(form, tag, tables::handed_over(&build), build.lent);
+    buildcalls::answer(form, tag, tables::handed_over(&build, &tables), build.lent);
     Ok(())
 }

@@ -1,13 +1,12 @@
 // The tables of a build that was read, each as long as is said.
 use buildform::Build;
 use buildform::lengths::Lengths;
-use buildlines::tables;
-use buildlines::tables::prefix;
+use buildlines::tables::{Tables, prefix};
 use options::tables::Groups;
 use plainsplit::{ModuleTables, ids_of};
 use records::Records;
 
-fn modules<'a>(read: &'a tables::Tables, lengths: &Lengths) -> ModuleTables<'a> {
+fn modules<'a>(read: &'a Tables, lengths: &Lengths) -> ModuleTables<'a> {
     ModuleTables {
         flags: prefix(&read.modules.flags, lengths.flags.entries),
         sizes: prefix(&read.modules.sizes, lengths.sizes.entries),
@@ -22,7 +21,7 @@ fn modules<'a>(read: &'a tables::Tables, lengths: &Lengths) -> ModuleTables<'a> 
     }
 }
 
-fn records<'a>(read: &'a tables::Tables, lengths: &Lengths) -> Records<'a> {
+fn records<'a>(read: &'a Tables, lengths: &Lengths) -> Records<'a> {
     Records {
         first: prefix(&read.modules.first, lengths.first.entries),
         dependency: prefix(&read.records.dependency, lengths.dependency.entries),
@@ -30,7 +29,7 @@ fn records<'a>(read: &'a tables::Tables, lengths: &Lengths) -> Records<'a> {
     }
 }
 
-fn groups<'a>(read: &'a tables::Tables, lengths: &Lengths) -> Groups<'a> {
+fn groups<'a>(read: &'a Tables, lengths: &Lengths) -> Groups<'a> {
     Groups {
         given: prefix(&read.groups.given, lengths.given.entries),
         min_size: prefix(&read.groups.min_size, lengths.min_size.entries),
@@ -53,13 +52,13 @@ fn groups<'a>(read: &'a tables::Tables, lengths: &Lengths) -> Groups<'a> {
     }
 }
 
-pub fn handed_over(build: &Build) -> plainsplit::Build<'_> {
+pub fn handed_over<'a>(build: &Build, read: &'a Tables) -> plainsplit::Build<'a> {
     plainsplit::Build {
         counts: build.counts,
         options: build.options.to_options(),
-        modules: modules(&build.tables, &build.lengths),
-        records: records(&build.tables, &build.lengths),
-        groups: groups(&build.tables, &build.lengths),
-        answers: prefix(&build.tables.answers.numbers, build.lengths.answers.entries),
+        modules: modules(read, &build.lengths),
+        records: records(read, &build.lengths),
+        groups: groups(read, &build.lengths),
+        answers: prefix(&read.answers.numbers, build.lengths.answers.entries),
     }
 }

@@ -38,12 +38,20 @@ pub fn lent<T>(area: &mut [T], n: usize) -> &mut [T] {
     }
 }
 
-// Whether all entries from a place on are as they were.
+// Whether all entries from a place on are as they were. All are looked at, so that the compiler can take many at a time.
 pub fn kept<T: Entry>(area: &[T], from: usize) -> bool {
-    area.iter().skip(from).all(|entry| *entry == T::HELD)
+    let mut kept = true;
+    for entry in &area[from.min(area.len())..] {
+        kept &= *entry == T::HELD;
+    }
+    kept
 }
 
 // Whether the first so many numbers are zero.
 pub fn zeros(area: &[u32], count: usize) -> bool {
-    area.iter().take(count).all(|n| *n == 0)
+    let mut zeros = true;
+    for n in &area[..count.min(area.len())] {
+        zeros &= *n == 0;
+    }
+    zeros
 }

@@ -10,13 +10,13 @@ mod naming;
 mod spoiling;
 mod tables;
 
-use std::alloc::AllocError;
-use textform::out;
 use textform::reading::Words;
+use textform::{entries, out};
 use withlines::cases;
+use withlines::with::With;
 
 // Runs a case, given the lines before it that spoil it. Nothing if it can't be read, or is beyond the limits.
-fn answer(mut words: Words, with: &[&[u8]]) -> Option<()> {
+fn answer(mut words: Words, with: With) -> Option<()> {
     let call = words.next()?;
     let tag = words.next()?;
     match call {
@@ -25,13 +25,21 @@ fn answer(mut words: Words, with: &[&[u8]]) -> Option<()> {
     }
 }
 
-fn main(rt: HostRuntime) -> Result<(), AllocError> {
-    let alloc = rt.alloc();
-    let mut input = vec![in alloc; 0u8; 262144]?;
-    let n = io::read_full(0, &mut input);
-    if n == input.len() {
+// The array as a reference: a function that holds it and takes a part of it is checked for minutes.
+fn read_input(input: &mut [u8; 262144]) -> usize {
+    io::read_full(0, input)
+}
+
+fn answer_input(input: &[u8; 262144], n: usize) {
+    cases::answer_all(entries::front(input, n), answer);
+}
+
+fn main() {
+    let mut input = [0u8; 262144];
+    let n = read_input(&mut input);
+    if n == 262144 {
         out::text(b"! input\n");
-        return Ok(());
+        return;
     }
-    cases::answer_all(alloc, &input[..n], answer)
+    answer_input(&input, n);
 }

@@ -8,9 +8,10 @@ use listform::areas;
 use textform::out;
 use textform::reading::Words;
 use withlines::offsets;
+use withlines::with::With;
 
 // Runs a case, given the lines before it that spoil it. Nothing if it can't be read, or is beyond the limits.
-pub fn answer(tag: &[u8], mut words: Words, with: &[&[u8]]) -> Option<()> {
+pub fn answer(tag: &[u8], mut words: Words, with: With) -> Option<()> {
     let k = words.decimal_within(4097)? as usize;
     let e = words.decimal_within(4097)? as usize;
     let chunk = chunk::read(&mut words)?;
@@ -21,14 +22,7 @@ pub fn answer(tag: &[u8], mut words: Words, with: &[&[u8]]) -> Option<()> {
 }
 
 // The same once the words before HASH are read.
-fn name(
-    tag: &[u8],
-    mut words: Words,
-    with: &[&[u8]],
-    k: usize,
-    e: usize,
-    chunk: Chunk,
-) -> Option<()>
+fn name(tag: &[u8], mut words: Words, with: With, k: usize, e: usize, chunk: Chunk) -> Option<()>
     requires { (k ≤ 4097) × (e ≤ 4097) }
 {
     let mut hash = [0u8; 16384];
@@ -60,7 +54,7 @@ fn name(
 }
 
 // The call and its answer. The area holds a pattern on entry.
-fn run(tag: &[u8], with: &[&[u8]], groups: Names, entries: Names, chunk: Chunk, hash: &[u8]) {
+fn run(tag: &[u8], with: With, groups: Names, entries: Names, chunk: Chunk, hash: &[u8]) {
     let mut area = [areas::BYTE; 16500];
     let answer = chunk_names::derive_entries_aware_chunk_name(
         withlines::count(with, b"k", groups.count),

@@ -4,6 +4,7 @@ ghost use Rattle.std.specs.Option.{IfSome};
 
 use textform::entries;
 use textform::reading::Words;
+use withlines::with::With;
 
 // So many names. The table has entries past the last, since a line may lend more or fewer of them.
 #[derive(Clone, Copy)]
@@ -15,7 +16,7 @@ pub struct Names<'a> {
 
 impl<'a> Names<'a> {
     // The offsets that are lent: one more than there are names, unless a line of this kind says otherwise.
-    pub fn lent_offsets(&self, with: &[&[u8]], kind: &[u8]) -> &'a [u32] {
+    pub fn lent_offsets(&self, with: With, kind: &[u8]) -> &'a [u32] {
         let length = withlines::length(with, kind, self.count.wrapping_add(1));
         entries::front(self.offsets, length)
     }

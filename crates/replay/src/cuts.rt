@@ -7,6 +7,7 @@ use ids::parts::Ids;
 use textform::reading::Words;
 use textform::{entries, out};
 use withlines::Form;
+use withlines::with::With;
 
 // What a case hands over. The tables have entries past the last, since a line may lend more or fewer of them.
 #[derive(Drop)]
@@ -37,7 +38,7 @@ fn read_modules(
 }
 
 // Whether every line that spoils the call is one that it can have.
-fn all_known(with: &[&[u8]], n: usize) -> bool
+fn all_known(with: With, n: usize) -> bool
     requires { n ≤ 4097 }
 {
     withlines::all_known(
@@ -52,10 +53,24 @@ fn all_known(with: &[&[u8]], n: usize) -> bool
 }
 
 // Runs a case, given the lines before it that spoil it. Nothing if it can't be read, or is beyond the limits.
-pub fn answer(tag: &[u8], mut words: Words, with: &[&[u8]]) -> Option<()> {
+pub fn answer(tag: &[u8], mut words: Words, with: With) -> Option<()> {
     let n = words.decimal_within(4097)? as usize;
     let minimum = words.double()?;
     let maximum = words.double()?;
+    answer_tables(tag, words, with, n, minimum, maximum)
+}
+
+// The same once the words before the modules are read. The tables come first: behind a `?` they would be cleared twice.
+fn answer_tables(
+    tag: &[u8],
+    mut words: Words,
+    with: With,
+    n: usize,
+    minimum: f64,
+    maximum: f64,
+) -> Option<()>
+    requires { n ≤ 4097 }
+{
     let mut ids = [0u8; 16384];
     let mut offsets = [0u32; 4099];
     let mut sizes = [0u64; 4098];
@@ -81,7 +96,7 @@ pub fn answer(tag: &[u8], mut words: Words, with: &[&[u8]]) -> Option<()> {
 }
 
 // The call and its answer.
-fn run(with: &[&[u8]], call: &Call, bytes: &[u8], offsets: &[u32]) {
+fn run(with: With, call: &Call, bytes: &[u8], offsets: &[u32]) {
     let n = call.n;
     let ids = Ids {
         bytes,

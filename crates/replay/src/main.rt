@@ -8,14 +8,14 @@ mod cuts;
 mod filters;
 mod similar;
 
-use std::alloc::AllocError;
 use tablecalls::{captures, merges};
-use textform::out;
 use textform::reading::Words;
+use textform::{entries, out};
 use withlines::cases;
+use withlines::with::With;
 
 // Runs a case, given the lines before it that spoil it. Nothing if it can't be read, or is beyond the limits. No line can spoil the last two.
-fn answer(mut words: Words, with: &[&[u8]]) -> Option<()> {
+fn answer(mut words: Words, with: With) -> Option<()> {
     let call = words.next()?;
     let tag = words.next()?;
     match call {
@@ -28,13 +28,21 @@ fn answer(mut words: Words, with: &[&[u8]]) -> Option<()> {
     }
 }
 
-fn main(rt: HostRuntime) -> Result<(), AllocError> {
-    let alloc = rt.alloc();
-    let mut input = vec![in alloc; 0u8; 1048576]?;
-    let n = io::read_full(0, &mut input);
-    if n == input.len() {
+// The array as a reference: a function that holds it and takes a part of it is checked for minutes.
+fn read_input(input: &mut [u8; 1048576]) -> usize {
+    io::read_full(0, input)
+}
+
+fn answer_input(input: &[u8; 1048576], n: usize) {
+    cases::answer_all(entries::front(input, n), answer);
+}
+
+fn main() {
+    let mut input = [0u8; 1048576];
+    let n = read_input(&mut input);
+    if n == 1048576 {
         out::text(b"! input\n");
-        return Ok(());
+        return;
     }
-    cases::answer_all(alloc, &input[..n], answer)
+    answer_input(&input, n);
 }

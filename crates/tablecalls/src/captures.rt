@@ -9,6 +9,7 @@ use refusal::Refusal;
 use textform::reading::Words;
 use textform::{entries, out};
 use withlines::Form;
+use withlines::with::With;
 
 // What a case hands over. The tables have entries past the last, since a line may lend more or fewer of them.
 #[derive(Drop)]
@@ -46,7 +47,7 @@ fn read_records(words: &mut Words, dependency: &mut [u32], next: &mut [u32]) -> 
 }
 
 // Whether every line that spoils the call is one that it can have.
-fn all_known(with: &[&[u8]]) -> bool {
+fn all_known(with: With) -> bool {
     withlines::all_known(
         with,
         &[
@@ -62,11 +63,26 @@ fn all_known(with: &[&[u8]]) -> bool {
 }
 
 // Runs a case, given the lines before it that spoil it. Nothing if it can't be read, or is beyond the limits.
-pub fn answer(tag: &[u8], mut words: Words, with: &[&[u8]]) -> Option<()> {
+pub fn answer(tag: &[u8], mut words: Words, with: With) -> Option<()> {
     let n = words.decimal_within(4097)? as usize;
     let d = words.decimal_within(65535)? as usize;
     let recursive = words.decimal_within(1)? == 1;
     let from = ModuleIdx(words.short()?);
+    answer_tables(tag, words, with, n, d, recursive, from)
+}
+
+// The same once the words before the flags are read. The tables come first: behind a `?` they would be cleared twice.
+fn answer_tables(
+    tag: &[u8],
+    mut words: Words,
+    with: With,
+    n: usize,
+    d: usize,
+    recursive: bool,
+    from: ModuleIdx,
+) -> Option<()>
+    requires { (n ≤ 4097) × (d ≤ 65535) }
+{
     let mut flags = [0u8; 4098];
     let mut first = [0u32; 4098];
     let mut dependency = [0u32; 65538];
@@ -96,7 +112,7 @@ pub fn answer(tag: &[u8], mut words: Words, with: &[&[u8]]) -> Option<()> {
 }
 
 // The call and its answer. Areas hold a pattern on entry, and unless a line says otherwise are three entries longer than is needed.
-fn run(tag: &[u8], with: &[&[u8]], call: &Call) {
+fn run(tag: &[u8], with: With, call: &Call) {
     let mut marks = [areas::BYTE; 4100];
     let mut scratch = [areas::NUMBER; 4100];
     let records = call.d.wrapping_add(1);

@@ -7,6 +7,7 @@ use refusal::Refusal;
 use textform::reading::Words;
 use textform::{entries, out};
 use withlines::Form;
+use withlines::with::With;
 
 // What a case hands over. The tables have entries past the last, since a line may lend more or fewer of them.
 #[derive(Drop)]
@@ -35,7 +36,7 @@ fn read_subgroups(words: &mut Words, sizes: &mut [u64], bits: &mut [u64]) -> Opt
 }
 
 // Whether every line that spoils the call is one that it can have.
-fn all_known(with: &[&[u8]]) -> bool {
+fn all_known(with: With) -> bool {
     withlines::all_known(
         with,
         &[
@@ -49,11 +50,25 @@ fn all_known(with: &[&[u8]]) -> bool {
 }
 
 // Runs a case, given the lines before it that spoil it. Nothing if it can't be read, or is beyond the limits.
-pub fn answer(tag: &[u8], mut words: Words, with: &[&[u8]]) -> Option<()> {
+pub fn answer(tag: &[u8], mut words: Words, with: With) -> Option<()> {
     let k = words.decimal_within(4097)? as usize;
     let entries = words.decimal()? as usize;
     // An absent threshold is 0.
     let threshold = words.limit()?.unwrap_or(0.0);
+    answer_tables(tag, words, with, k, entries, threshold)
+}
+
+// The same once the words before the subgroups are read. The tables come first: behind a `?` they would be cleared twice.
+fn answer_tables(
+    tag: &[u8],
+    mut words: Words,
+    with: With,
+    k: usize,
+    entries: usize,
+    threshold: f64,
+) -> Option<()>
+    requires { k ≤ 4097 }
+{
     let mut sizes = [0u64; 4098];
     let mut bits = [0u64; 16392];
     read_subgroups(&mut words, &mut sizes[..k], &mut bits[..4 * k])?;
@@ -73,7 +88,7 @@ pub fn answer(tag: &[u8], mut words: Words, with: &[&[u8]]) -> Option<()> {
 }
 
 // The length of an area in subgroups: three more than are needed, unless a line says otherwise.
-fn lent(with: &[&[u8]], place: usize, k: usize) -> usize
+fn lent(with: With, place: usize, k: usize) -> usize
     requires { k ≤ 4097 }
     ensures { result ≤ 4100 }
 {
@@ -81,7 +96,7 @@ fn lent(with: &[&[u8]], place: usize, k: usize) -> usize
 }
 
 // The call and its answer. Areas hold a pattern on entry.
-fn run(tag: &[u8], with: &[&[u8]], call: &Call) {
+fn run(tag: &[u8], with: With, call: &Call) {
     let k = call.k;
     let mut final_numbers = [areas::NUMBER; 4100];
     let mut final_sizes = [areas::WORD; 4100];

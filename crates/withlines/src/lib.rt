@@ -1,10 +1,12 @@
 // Lines that spoil a leaf call before it is handed over: `with offsets ..`, `with len TABLE LENGTH`, `with count COUNT VALUE`, `with areas ..`.
-// The lines before a call are kept as they stand, and looked through for each value that one of them may change.
+// The text before a call is kept as it stands, and looked through for each value that a line of it may change.
 #![tactic(auto)]
 
 pub mod cases;
 pub mod offsets;
+pub mod with;
 
+use crate::with::{With, spoils};
 use textform::reading::Words;
 use textform::values;
 
@@ -48,7 +50,9 @@ impl<'a> Form<'a> {
     // The words past the kind and the name, if a line is of this form as far as that.
     fn numbers_of<'b>(&self, line: &'b [u8]) -> Option<Words<'b>> {
         let mut words = Words::of(line);
-        words.next()?;
+        if words.next()? != b"with".as_slice() {
+            return None;
+        }
         if words.next()? != self.kind {
             return None;
         }
@@ -73,29 +77,36 @@ impl<'a> Form<'a> {
         words.ended()
     }
 
-    // The number at a place of the last line of this form. Without such a line it is another, and where the line has no number there it is 0.
-    fn number(&self, with: &[&[u8]], place: usize, otherwise: usize) -> usize {
-        for line in with.iter().rev() {
-            if let Some(mut words) = self.numbers_of(line) {
-                return words.nth(place).and_then(values::decimal).unwrap_or(0) as usize;
-            }
+    // The numbers of the last line of this form, if there is one.
+    fn last<'b>(&self, with: With<'b>) -> Option<Words<'b>> {
+        let mut found = None;
+        for line in with.lines() {
+            found = self.numbers_of(line).or(found);
         }
-        otherwise
+        found
+    }
+
+    // The number at a place of the last line of this form. Without such a line it is another, and where the line has no number there it is 0.
+    fn number(&self, with: With, place: usize, otherwise: usize) -> usize {
+        match self.last(with) {
+            None => otherwise,
+            Some(mut words) => words.nth(place).and_then(values::decimal).unwrap_or(0) as usize,
+        }
     }
 }
 
 // The length of a table.
-pub fn length(with: &[&[u8]], table: &[u8], otherwise: usize) -> usize {
+pub fn length(with: With, table: &[u8], otherwise: usize) -> usize {
     Form::length(table).number(with, 0, otherwise)
 }
 
 // A count.
-pub fn count(with: &[&[u8]], name: &[u8], otherwise: usize) -> usize {
+pub fn count(with: With, name: &[u8], otherwise: usize) -> usize {
     Form::count(name).number(with, 0, otherwise)
 }
 
 // The length of the area at a place of the call.
-pub fn area(with: &[&[u8]], place: usize, otherwise: usize) -> usize {
+pub fn area(with: With, place: usize, otherwise: usize) -> usize {
     Form::areas(0).number(with, place, otherwise)
 }
 
@@ -104,6 +115,7 @@ fn is_known(line: &[u8], forms: &[Form]) -> bool {
 }
 
 // Whether every line that spoils the call is one that it can have.
-pub fn all_known(with: &[&[u8]], forms: &[Form]) -> bool {
-    with.iter().all(|line| is_known(line, forms))
+pub fn all_known(with: With, forms: &[Form]) -> bool {
+    with.lines()
+        .all(|line| !spoils(line) || is_known(line, forms))
 }
