@@ -11,8 +11,8 @@ mod similar;
 use tablecalls::{captures, merges};
 use textform::reading::Words;
 use textform::{entries, out};
-use withlines::cases;
 use withlines::with::With;
+use withlines::{all_known, cases};
 
 // Runs a case, given the lines before it that spoil it. Nothing if it can't be read, or is beyond the limits. No line can spoil the last two.
 fn answer(mut words: Words, with: With) -> Option<()> {
@@ -22,8 +22,8 @@ fn answer(mut words: Words, with: With) -> Option<()> {
         b"cut" => cuts::answer(tag, words, with),
         b"merge" => merges::answer(tag, words, with),
         b"capture" => captures::answer(tag, words, with),
-        b"sim" if with.is_empty() => similar::answer(tag, words),
-        b"filter" if with.is_empty() => filters::answer(tag, words),
+        b"sim" if all_known(with, &[]) => similar::answer(tag, words),
+        b"filter" if all_known(with, &[]) => filters::answer(tag, words),
         _ => None,
     }
 }

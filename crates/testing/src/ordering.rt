@@ -14,6 +14,7 @@ use records::Records;
 use refusal::Refusal;
 
 // Refuses, or leaves the modules in execution order and their ranks by id, and answers how many there are.
+#[tactic(auto, using(crate::proofs::OrderLadder::order_outcome))]
 pub fn test_order(
     n: usize,
     g: usize,

@@ -7,7 +7,7 @@ pub struct With<'a> {
     pub text: &'a [u8],
 }
 
-pub fn spoils(line: &[u8]) -> bool {
+pub(crate) fn spoils(line: &[u8]) -> bool {
     match Words::of(line).next() {
         Some(b"with") => true,
         _ => false,
@@ -15,12 +15,7 @@ pub fn spoils(line: &[u8]) -> bool {
 }
 
 impl<'a> With<'a> {
-    pub fn lines(&self) -> Lines<'a> {
+    pub(crate) fn lines(&self) -> Lines<'a> {
         Lines { rest: self.text }
-    }
-
-    // Whether no line spoils the case.
-    pub fn is_empty(&self) -> bool {
-        !self.lines().any(spoils)
     }
 }

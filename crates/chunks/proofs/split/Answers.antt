@@ -2,6 +2,7 @@
 use Prim.Native.Nat.{ℕ}
 use mathlib.Core.List.{List, []}
 use mathlib.Core.Path.{refl, sym}
+use native.Mathlib.Omega.{arith}
 use lib.Seq.{length-take-le}
 use Rattle.grouping.specs.Given.{Given, Shared, Variant, Areas}
 use Rattle.std.specs.Prelude.{Result}
@@ -48,9 +49,9 @@ returns-in_err-test_state-clause-answered c =
     (c.in_err-test_state.ensures _ _
     (record {
       rows = record { module_count = refl; group_count = refl; name_count = refl; all_answers = refl };
-      count = refl;
+      count = omega arith;
       areas = refl;
-      words = refl;
+      words = omega arith;
     })))
 
 pub slice_bounds-by_order-end : goal.slice_bounds-by_order-end
@@ -75,9 +76,9 @@ run_tested-made-requires c =
     (c.in_ok-test_state.ensures _ _
     (record {
       rows = record { module_count = refl; group_count = refl; name_count = refl; all_answers = refl };
-      count = refl;
+      count = omega arith;
       areas = refl;
-      words = refl;
+      words = omega arith;
     }))
 
 pub returns-in_err-count-clause-answered : goal.returns-in_err-count-clause-answered
@@ -92,7 +93,7 @@ returns-clause-answered c =
     (c.in_ok-test_state.ensures _ _
     (record {
       rows = record { module_count = refl; group_count = refl; name_count = refl; all_answers = refl };
-      count = refl;
+      count = omega arith;
       areas = refl;
-      words = refl;
+      words = omega arith;
     })) c.run_tested-made.result _ (c.run_tested-made.ensures.written.of_build _ (input_fits _ any _ t))
