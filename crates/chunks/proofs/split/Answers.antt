@@ -49,9 +49,9 @@ returns-in_err-test_state-clause-answered c =
     (c.in_err-test_state.ensures _ _
     (record {
       rows = record { module_count = refl; group_count = refl; name_count = refl; all_answers = refl };
-      count = omega arith;
+      count = refl;
       areas = refl;
-      words = omega arith;
+      words = refl;
     })))
 
 pub slice_bounds-by_order-end : goal.slice_bounds-by_order-end
@@ -76,9 +76,9 @@ run_tested-made-requires c =
     (c.in_ok-test_state.ensures _ _
     (record {
       rows = record { module_count = refl; group_count = refl; name_count = refl; all_answers = refl };
-      count = omega arith;
+      count = refl;
       areas = refl;
-      words = omega arith;
+      words = refl;
     }))
 
 pub returns-in_err-count-clause-answered : goal.returns-in_err-count-clause-answered
@@ -89,11 +89,14 @@ returns-in_err-count-clause-answered c =
 pub returns-clause-answered : goal.returns-clause-answered
 returns-clause-answered c =
     let t = tested c.args.on_entry c.in_ok-count.ensures in
+    let call =
     answers _ _ _ t
     (c.in_ok-test_state.ensures _ _
     (record {
       rows = record { module_count = refl; group_count = refl; name_count = refl; all_answers = refl };
-      count = omega arith;
+      count = refl;
       areas = refl;
-      words = omega arith;
+      words = refl;
     })) c.run_tested-made.result _ (c.run_tested-made.ensures.written.of_build _ (input_fits _ any _ t))
+    in
+    grind (arith, call)
